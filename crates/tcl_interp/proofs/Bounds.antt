@@ -1,11 +1,11 @@
 -- Steps never rise, so the number of turns that bounds a loop or a task doesn't matter.
-use Rattle.std.proofs.Common.{◌≡◌, ℕ, zero, suc, ◌≤◌, ◌<◌, Bool, true, false, cond, List, [], ◌∷◌, ◌++◌, length, nat_le, Option, Some, None, Result, Ok, Err, refl, sym, ap, ◌∙◌, arith}
+use Rattle.std.proofs.Common.{◌≡◌, ℕ, zero, suc, ◌≤◌, ◌<◌, Bool, true, false, cond, List, [], ◌∷◌, ◌++◌, length, nat_le, Option, Some, None, Result, Ok, Err, refl, sym, arith}
 use Rattle.tcl_words.specs.declared.script.Command.{Command}
 use Rattle.tcl_words.specs.declared.script.Word.{Word}
 use Rattle.tcl_words.specs.declared.script.Piece.{Piece}
 use Rattle.tcl_words.specs.declared.script.Piece.TheVariants.{Literal, Variable, Element, Bracket}
 use Rattle.tcl_text.specs.declared.fault.ParseFault.{ParseFault}
-use Rattle.tcl_vars.specs.Store.{Store, variable_in, element_in}
+use Rattle.tcl_vars.specs.Store.{variable_in, element_in}
 use Rattle.tcl_text.specs.declared.fault.ReadFault.{ReadFault}
 use Rattle.tcl_control.specs.declared.code.Code.{Code}
 use Rattle.tcl_control.specs.declared.code.Code.TheVariants.{Normal, Error, Return, Break, Continue}
@@ -32,7 +32,7 @@ use Rattle.tcl_interp.specs.Outside.{Outside, Falls, RunsBelow}
 use Rattle.tcl_interp.specs.Evaluation.{State, Outcome, Ended, OutOfSteps, seen_level, and_then, on_normal, stepped, on_read, words_of, on_words, index_pieces, element_read, on_index, piece_meaning, pieces_meaning, index_depth, element_meaning, words_meaning, called, commands_meaning}
 use Rattle.tcl_interp.specs.Plans.{cut, others, levels_back, procedure_ended, caught, on_tested, loop_ended, after_body, after_next, run_at, next_turn, test_meaning, turn_meaning, turns_meaning, loop_meaning, plan_meaning}
 use Rattle.tcl_interp.specs.Expressions.{value_ended, with_truth, on_value, if_holds, run_meaning, tree_meaning, expression_meaning, condition_meaning, otherwise_meaning, choices_meaning}
-use Rattle.tcl_interp.specs.Scripts.{out_of_global, on_act, resumed, after_step, task_meaning, act_meaning, outside_meaning, by_call, called_meaning, call_meaning, on_parsed, script_meaning}
+use Rattle.tcl_interp.specs.Scripts.{out_of_global, on_act, resumed, after_step, task_meaning, act_meaning, by_call, call_meaning, on_parsed, script_meaning}
 
 -- where something ends, at most so many steps are left
 abbrev pub Within : {S : Type 0} → ℕ → Outcome S → Type 0

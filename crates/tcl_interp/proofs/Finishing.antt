@@ -1,5 +1,5 @@
 -- Doing what is still to do lets steps only fall.
-use Rattle.std.proofs.Common.{ℕ, ◌≤◌, Bool, true, false, List, [], ◌∷◌, ◌++◌, length, nat_le, Option, Some, None}
+use Rattle.std.proofs.Common.{ℕ, ◌≤◌, Bool, List, [], ◌∷◌, ◌++◌, length, nat_le, Option, Some}
 use Rattle.tcl_words.specs.declared.script.Command.{Command}
 use Rattle.tcl_words.specs.declared.script.Piece.{Piece}
 use Rattle.tcl_words.specs.declared.script.Word.{Word}
@@ -11,11 +11,11 @@ use Rattle.tcl_control.specs.Texts.{element_name, limit_text}
 use Rattle.tcl_shapes.specs.declared.branches.Branch.{Branch}
 use Rattle.tcl_expr.specs.Resuming.{evaluation_told}
 use Rattle.tcl_interp.specs.Outside.{Outside}
-use Rattle.tcl_interp.specs.Evaluation.{State, Outcome, Ended, OutOfSteps, seen_level, words_of, on_words, element_read, index_depth, element_meaning, with_joined, word_meaning, words_meaning, called}
+use Rattle.tcl_interp.specs.Evaluation.{State, Outcome, Ended, seen_level, words_of, element_read, index_depth, element_meaning, with_joined, called}
 use Rattle.tcl_interp.specs.Expressions.{if_holds, choices_meaning}
-use Rattle.tcl_interp.specs.Plans.{loop_ended, next_turn, turn_meaning, loop_meaning, turns_meaning}
+use Rattle.tcl_interp.specs.Plans.{loop_ended, next_turn}
 use Rattle.tcl_interp.specs.Scripts.{out_of_global, at_global, script_meaning, call_meaning, after_step}
-use Rattle.tcl_interp.specs.Finish.{Wording, Indexing, Doing, Begins, GoesOn, Indexes, Evaluates, Calls, Tests, Steps, Resumes, Ends, Waiting, ForCommand, ForPart, ForIndex, ForValue, ForTest, ForChoice, ForBody, ForNext, ForStart, ForCatch, ForLevels, ForProcedure, ForScript, ForAll, RestToDo, Idle, Running, Spent, Broken, script_rest, words_rest, word_done, word_rest, index_rest, loop_rest, choice_rest, turn_rest, task_rest, doing_meaning, waiting_meaning, waits_meaning, finish}
+use Rattle.tcl_interp.specs.Finish.{Wording, Indexing, Doing, Begins, GoesOn, Indexes, Evaluates, Calls, Tests, Steps, Resumes, Ends, Waiting, ForCommand, ForPart, ForIndex, ForValue, ForTest, ForChoice, ForBody, ForNext, ForStart, ForCatch, ForLevels, ForProcedure, ForScript, ForAll, RestToDo, Idle, Running, Spent, Broken, script_rest, words_rest, word_done, word_rest, index_rest, loop_rest, choice_rest, turn_rest, doing_meaning, waiting_meaning, waits_meaning, finish}
 use Rattle.tcl_interp.proofs.Bounds.{Bounded, Within, within_after_body, within_after_next, within_after_step, within_and_then, within_call, within_choices, within_commands, within_called, within_cond, within_element, within_if, within_next, within_on_normal, within_on_read, within_on_value, within_on_words, within_otherwise, within_pieces, within_run, within_script, within_stepped, within_task, within_turn, within_turns, within_words}
 
 pub within_at_global : {S : Type 0} (n : ℕ) (state : State S) (code : Code) (text : List ℕ) → state.steps ≤ n → Within n (at_global state code text)

@@ -7,8 +7,10 @@ pub mod Finishing
 pub mod IndexLemmas
 pub mod Kept
 pub mod LeavesSame
+pub mod OnwardLemmas
 pub mod Same
 pub mod Settled
+pub mod SimpleLemmas
 pub mod Stepping
 pub mod Straight
 pub mod Unrolled

@@ -33,7 +33,7 @@ use Rattle.tcl_interp.specs.Plans.{loop_ended, after_body, after_next, next_turn
 use Rattle.tcl_interp.specs.Scripts.{out_of_global, at_global, call_meaning, on_parsed, script_meaning}
 use Rattle.tcl_interp.specs.Finish.{Wording, Indexing, Doing, Begins, GoesOn, Indexes, Evaluates, Calls, Tests, Steps, Resumes, Ends, Waiting, ForCommand, ForPart, ForIndex, ForValue, ForTest, ForChoice, ForBody, ForNext, ForStart, ForCatch, ForLevels, ForProcedure, ForScript, ForAll, Running, script_rest, words_rest, word_done, index_rest, value_rest, choice_rest, turn_rest, loop_rest, waiting_meaning, waits_meaning, finish}
 use Rattle.tcl_interp.specs.Quiet.{told_run, EvaluationMoves, MovesBy, LeadsBy, Leads}
-use Rattle.tcl_interp.specs.Moves.{Moved, Standing, Part, Script, ElementOf, variable_value, WordEnd, Whole, Failed, AtPart, join_end, piece_end, word_end, with_more_words, moved, standing, more_move, index_begins, element_begins, part_begins, word_move, words_move, element_end, index_move, indexes_move, parsed_move, begin_move, go_on_move, after_command, after_part, longer_index, after_index, begun_as, expression_begins, value_given, asked_move, answer_move, otherwise_move, choice_move, after_value_move, turn_move, after_test_move, chosen_move, after_choice_move, next_move, after_body_move, after_next_move, after_start_move, global_end, end_move}
+use Rattle.tcl_interp.specs.Moves.{Moved, Standing, Part, Script, ElementOf, variable_value, WordEnd, Whole, Failed, AtPart, join_end, piece_end, word_end, with_more_words, moved, more_move, index_begins, element_begins, part_begins, word_move, words_move, element_end, index_move, indexes_move, parsed_move, begin_move, go_on_move, after_command, after_part, after_index, begun_as, expression_begins, value_given, answer_move, otherwise_move, choice_move, after_value_move, turn_move, after_test_move, chosen_move, after_choice_move, next_move, after_body_move, after_next_move, after_start_move, global_end, end_move}
 
 pub and_then_assoc : {S : Type 0} (o : Outcome S) (f g : State S → Code → List ℕ → Outcome S) → and_then (and_then o f) g ≡ and_then o (λ state code text. and_then (f state code text) g)
 and_then_assoc (Ended state code text) f g = refl
@@ -97,7 +97,7 @@ module _ {S K : Type 0} (outside : Outside S K) where
   call_in room = call_meaning outside (script_meaning outside room)
 
   -- an element, where scripts have so much room, and indices go so deep
-  abbrev elements_in : ℕ → ℕ → List ℕ → List ℕ → State S → Outcome S
+  abbrev pub elements_in : ℕ → ℕ → List ℕ → List ℕ → State S → Outcome S
   elements_in room depth = element_meaning (run_in room) depth
 
   -- the outcome after a move of what is done and what waits
@@ -108,7 +108,7 @@ module _ {S K : Type 0} (outside : Outside S K) where
   abbrev pub finish_standing : Standing K → State S → Outcome S
   finish_standing m state = finish_moved m.moved (record state { store = m.store; context = m.context })
 
-  abbrev next_in : ℕ → List Command → State S → Code → List ℕ → Outcome S
+  abbrev pub next_in : ℕ → List Command → State S → Code → List ℕ → Outcome S
   next_in room after = on_normal (λ state result. script_rest outside room after result state)
 
   -- ── parts ──

@@ -22,14 +22,11 @@ use Rattle.tcl_interp.specs.Expressions.{on_value, if_holds, expression_meaning}
 use Rattle.tcl_interp.specs.Scripts.{out_of_global, told_state, resumed, after_step, task_meaning, act_meaning, called_meaning}
 use Rattle.tcl_interp.specs.Finish.{Calls, Tests, Steps, Resumes, Waiting, ForTest, loop_rest, turn_rest, waits_meaning}
 use Rattle.tcl_interp.specs.Moves.{Standing, moved, standing, plan_move, items_move, test_move, act_move}
-use Rattle.tcl_interp.specs.Steps.{finish_from, TakesStep, TakesNone, Resumed}
+use Rattle.tcl_interp.specs.Steps.{state_with, finish_from, TakesStep, TakesNone, Resumed}
 use Rattle.tcl_interp.specs.Quiet.{Leads}
 use Rattle.tcl_interp.proofs.Bounds.{and_then_same, on_value_same, if_same, turn_same, turns_same, within_expression, resumed_same, after_step_same, on_act_same, within_script}
 use Rattle.tcl_interp.proofs.Same.{and_then_assoc, finish_standing, run_in, expression_same, choice_same, leads_same}
 use Rattle.tcl_interp.proofs.Weights.{tasks, waits_tasks}
-
-abbrev pub state_with : {S : Type 0} → S → Store → Context → ℕ → State S
-state_with shows store context steps = record { shows = shows; store = store; context = context; steps = steps }
 
 module _ {S K : Type 0} (outside : Outside S K) where
   -- moves without a step keep the outcome

@@ -4,8 +4,8 @@ use Rattle.tcl_vars.specs.Store.{Store}
 use Rattle.tcl_control.specs.declared.code.Code.{Code}
 use Rattle.tcl_control.specs.declared.code.Code.TheVariants.{Normal, Error, Return, Break, Continue}
 use Rattle.tcl_control.specs.declared.context.Context.{Context}
-use Rattle.tcl_interp.specs.Outside.{Outside, Falls}
-use Rattle.tcl_interp.specs.Evaluation.{State, Outcome, Ended, OutOfSteps, and_then}
+use Rattle.tcl_interp.specs.Outside.{Outside}
+use Rattle.tcl_interp.specs.Evaluation.{State, Outcome, OutOfSteps, and_then}
 use Rattle.tcl_interp.specs.Plans.{run_at}
 use Rattle.tcl_interp.specs.Scripts.{script_meaning, out_of_global, at_global, on_act, after_step, act_meaning, task_meaning}
 use Rattle.tcl_interp.proofs.Bounds.{Bounded, and_then_same, stepped_same, within_run_at, within_script, after_step_same}
@@ -15,9 +15,9 @@ use Rattle.tcl_interp.specs.declared.job.Started.{Started}
 use Rattle.tcl_interp.specs.declared.job.Task.{Task}
 use Rattle.tcl_interp.specs.declared.job.Task.TheVariants.{Begins, Waits, Runs, Invoked}
 use Rattle.tcl_interp.specs.Course.{Course}
-use Rattle.tcl_interp.specs.Tasks.{act_of, global_act, outside_of}
+use Rattle.tcl_interp.specs.Tasks.{act_of, outside_of}
 use Rattle.tcl_interp.specs.Falls.{jobs_fall}
-use Rattle.tcl_interp.specs.Meaning.{job_meaning, next_meaning, looked, started, after_script}
+use Rattle.tcl_interp.specs.Meaning.{job_meaning, next_meaning, looked, after_script}
 use Rattle.tcl_interp.specs.JobLaws.{Calls, Unrolls, Determined, TasksGoOn, Invoking}
 
 module _ {S J : Type 0} (course : Course S J) (calls : Calls S J) (room : ℕ) where

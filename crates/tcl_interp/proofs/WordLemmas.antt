@@ -7,7 +7,7 @@ use Rattle.tcl_vars.specs.Store.{Store}
 use Rattle.tcl_control.specs.declared.code.Code.TheVariants.{Error}
 use Rattle.tcl_interp.specs.Evaluation.{words_of}
 use Rattle.tcl_interp.specs.Finish.{Waiting, Ends}
-use Rattle.tcl_interp.specs.Moves.{Moved, moved, Part, WordEnd, Whole, AtPart, word_end, with_more_words, more_move, word_part, word_move, words_move, go_on_move}
+use Rattle.tcl_interp.specs.Moves.{moved, Part, WordEnd, Whole, AtPart, word_end, with_more_words, more_move, word_part, word_move, words_move, go_on_move}
 use Rattle.tcl_interp.specs.Rests.{IsSingle, words_in_front, pieces_in_front, expand_in_front}
 
 module _ {K : Type 0} (level : ℕ) (store : Store) (room : ℕ) (waits : List (Waiting K)) where

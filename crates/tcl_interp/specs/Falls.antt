@@ -1,5 +1,5 @@
 -- Steps. The tasks of jobs come to an end: a script that one of them runs is followed by a smaller one.
-use Rattle.std.specs.Prelude.{ℕ, ◌<◌, List}
+use Rattle.std.specs.Prelude.{ℕ, List}
 use Rattle.std.proofs.Common.{arith}
 use Rattle.tcl_vars.specs.Store.{Store}
 use Rattle.tcl_control.specs.declared.code.Code.{Code}

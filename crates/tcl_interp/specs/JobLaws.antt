@@ -1,14 +1,12 @@
 -- Steps. What holds of all jobs.
-use Rattle.std.specs.Prelude.{◌≡◌, ℕ, suc, ◌≤◌, ◌<◌, Bool, true, List}
+use Rattle.std.specs.Prelude.{◌≡◌, ℕ, suc, ◌<◌, Bool, true, List}
 use Rattle.tcl_vars.specs.Store.{Store}
 use Rattle.tcl_control.specs.declared.code.Code.{Code}
 use Rattle.tcl_interp.specs.Outside.{Told}
 use Rattle.tcl_interp.specs.Evaluation.{State, Outcome, Ended, OutOfSteps, and_then}
 use Rattle.tcl_interp.specs.Plans.{run_at}
 use Rattle.tcl_interp.specs.Scripts.{script_meaning, task_meaning, at_global}
-use Rattle.tcl_interp.specs.declared.job.Looked.{Looked}
 use Rattle.tcl_interp.specs.declared.job.Looked.TheVariants.{Wants, Ends}
-use Rattle.tcl_interp.specs.declared.job.Started.{Started}
 use Rattle.tcl_interp.specs.declared.job.Task.{Task}
 use Rattle.tcl_interp.specs.declared.job.Task.TheVariants.{Begins, Runs, Invoked}
 use Rattle.tcl_interp.specs.Course.{Course}

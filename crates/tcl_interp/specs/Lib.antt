@@ -18,5 +18,6 @@ pub mod Replies
 pub mod Rests
 pub mod Runs
 pub mod Scripts
+pub mod Simple
 pub mod Steps
 pub mod Tasks

@@ -3,7 +3,7 @@ use Rattle.std.specs.Prelude.{ℕ, List, []}
 use Rattle.tcl_vars.specs.Store.{Store}
 use Rattle.tcl_control.specs.declared.code.Code.{Code}
 use Rattle.tcl_interp.specs.Outside.{Told}
-use Rattle.tcl_interp.specs.Evaluation.{State, Outcome, Ended, OutOfSteps, and_then, with_step}
+use Rattle.tcl_interp.specs.Evaluation.{State, Outcome, Ended, and_then, with_step}
 use Rattle.tcl_interp.specs.Plans.{run_at}
 use Rattle.tcl_interp.specs.Scripts.{act_meaning, out_of_global, script_meaning, told_state}
 use Rattle.tcl_interp.specs.declared.job.Looked.{Looked}

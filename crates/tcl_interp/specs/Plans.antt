@@ -1,6 +1,5 @@
 -- Meaning. What the commands do that run scripts: the meaning of a plan.
 use Rattle.std.specs.Prelude.{ℕ, zero, suc, List, [], ◌++◌, take, drop, Option, Some, None}
-use Rattle.tcl_vars.specs.Store.{Store}
 use Rattle.tcl_control.specs.declared.code.Code.{Code}
 use Rattle.tcl_control.specs.declared.code.Code.TheVariants.{Normal, Error, Return, Break, Continue}
 use Rattle.tcl_control.specs.declared.code.ReturnCode.{ReturnCode}

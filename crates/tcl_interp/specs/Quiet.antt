@@ -1,5 +1,5 @@
 -- Steps. Moves in a row, up to where a step, a task or the end is due.
-use Rattle.std.specs.Prelude.{◌≡◌, ◌≢◌, ℕ, zero, suc, List, [], ◌∷◌, Option, Result, Ok, Err, IfOk}
+use Rattle.std.specs.Prelude.{◌≡◌, ◌≢◌, ℕ, zero, suc, Bool, true, List, [], ◌∷◌, Option, Result, Ok, Err, IfOk}
 use Rattle.tcl_vars.specs.Store.{Store}
 use Rattle.tcl_expr.specs.declared.ask.Ask.{Ask}
 use Rattle.tcl_expr.specs.declared.fault.EvalFault.{EvalFault}
@@ -70,22 +70,22 @@ module _ {K : Type 0} where
   abbrev pub MovesOn : Standing K → Standing K → Type 0
   MovesOn from to = (between : Standing K) × Leads from between × IsQuiet between.moved × Moves between to
 
-  -- a step is needed, a task is to be resumed, or all has ended
-  abbrev pub IsDueBy : Doing K → List (Waiting K) → Type 0
-  IsDueBy (Begins room text) waits = ⊥
-  IsDueBy (GoesOn room commands result) waits = ⊥
-  IsDueBy (Indexes x) waits = ⊥
-  IsDueBy (Evaluates room evaluation given) waits = ⊥
-  IsDueBy (Ends code text) waits = waits ≡ []
-  IsDueBy doing waits = Unit {0}
+  -- a step is needed, a task is to be resumed, or all has ended; or a command is in front, where moves may stop before one
+  abbrev pub IsDueBy : Bool → Doing K → List (Waiting K) → Type 0
+  IsDueBy pauses (Begins room text) waits = ⊥
+  IsDueBy pauses (GoesOn room commands result) waits = pauses ≡ true
+  IsDueBy pauses (Indexes x) waits = ⊥
+  IsDueBy pauses (Evaluates room evaluation given) waits = ⊥
+  IsDueBy pauses (Ends code text) waits = waits ≡ []
+  IsDueBy pauses doing waits = Unit {0}
 
-  abbrev pub IsDue : Moved K → Type 0
-  IsDue m = IsDueBy m.doing m.waits
+  abbrev pub IsDue : Bool → Moved K → Type 0
+  IsDue pauses m = IsDueBy pauses m.doing m.waits
 
   -- one of these, or a script is to be read
-  abbrev pub StopsBy : Doing K → List (Waiting K) → Type 0
-  StopsBy (Begins room text) waits = Unit {0}
-  StopsBy doing waits = IsDueBy doing waits
+  abbrev pub StopsBy : Bool → Doing K → List (Waiting K) → Type 0
+  StopsBy pauses (Begins room text) waits = Unit {0}
+  StopsBy pauses doing waits = IsDueBy pauses doing waits
 
-  abbrev pub Stops : Moved K → Type 0
-  Stops m = StopsBy m.doing m.waits
+  abbrev pub Stops : Bool → Moved K → Type 0
+  Stops pauses m = StopsBy pauses m.doing m.waits

@@ -1,5 +1,5 @@
 -- Meaning. The evaluation of a script.
-use Rattle.std.specs.Prelude.{ℕ, zero, suc, List, [], ◌∷◌, Option, Some, None, Result, Ok, Err}
+use Rattle.std.specs.Prelude.{ℕ, zero, suc, List, [], ◌∷◌, Result, Ok, Err}
 use Rattle.tcl_words.specs.declared.script.Command.{Command}
 use Rattle.tcl_text.specs.declared.fault.ParseFault.{ParseFault}
 use Rattle.tcl_text.specs.FaultTexts.{parse_text as text_of}

@@ -14,7 +14,7 @@ use crate::expressions::{chosen, evaluate, turn};
 use crate::machine::{
     Answered, Asking, Choosing, Frame, Indexing, Next, Now, ScriptPlace, Wording,
 };
-use crate::words::{begin_for, go_on, longer_index, longer_word, put_index};
+use crate::words::{begin_for, go_on, is_plain, longer_index, longer_word, put_index};
 use std::alloc::{AllocError, Global};
 use tcl_control::{Code, Context, End, Looping, ReturnCode, STRAY_BREAK, STRAY_CONTINUE, caught};
 use tcl_table::{CommandTable, Source};
@@ -233,7 +233,7 @@ fn global_end<K: Drop>(alloc: Global, code: Code, text: Text) -> Next<K>
 }
 
 /// A command of a script has ended.
-fn after_command<K: Drop>(place: ScriptPlace, code: Code, text: Text) -> Now<K>
+pub fn after_command<K: Drop>(place: ScriptPlace, code: Code, text: Text) -> Now<K>
     ensures { (waits : List (Waiting K)) → moved (doing_of result) waits ≡ after_command place.room (left_in place) waits code text }
 {
     match code {
@@ -337,7 +337,7 @@ fn after_choice<K: Drop>(
 }
 
 /// Something has ended, and what waited for it goes on.
-fn ended<K: Drop>(
+pub fn ended<K: Drop>(
     alloc: Global,
     scopes: &mut Scopes,
     context: &mut Context,
@@ -380,7 +380,7 @@ fn ended<K: Drop>(
 
 /// Takes out what waits innermost.
 #[tactic(auto, unfolding(crate::specs::Rests::waits_of))]
-fn wake<K: Drop>(frames: &mut Vec<Frame<K>>) -> Option<Frame<K>>
+pub fn wake<K: Drop>(frames: &mut Vec<Frame<K>>) -> Option<Frame<K>>
     ensures { MatchOption result
         ((waits_of frames.old.items ≡ []) × (waits_of frames.new.items ≡ []))
         (λ frame. waits_of frames.old.items ≡ waiting_of frame ∷ waits_of frames.new.items) }
@@ -408,13 +408,20 @@ fn command_ended<K: Drop>(
     place: ScriptPlace,
     code: Code,
     text: Text,
+    pauses: bool,
 ) -> Result<Move<K>, AllocError>
-    ensures { IfOk result (MoveGives (standing
+    ensures { IfOk result (MoveGives pauses (standing
         (moved (Ends code text) (ForCommand place.room
         (left_in place) ∷ waits_of frames.old.items)) scopes.now context.now) frames.new.items scopes.now context.now) }
 {
     match code {
         Code::Normal => {
+            if pauses && is_plain(&place) {
+                return Ok(Move::On(Now::GoesOn {
+                    place,
+                    result: text,
+                }));
+            }
             let level = context.levels.here(scopes);
             let now = go_on(alloc, scopes, level, frames, place, text)?;
             Ok(Move::Far(now))
@@ -431,8 +438,9 @@ fn script_begins<K: Drop>(
     frames: &mut Vec<Frame<K>>,
     script: Source,
     room: u64,
+    pauses: bool,
 ) -> Result<Move<K>, AllocError>
-    ensures { IfOk result (MoveGives (standing
+    ensures { IfOk result (MoveGives pauses (standing
         (moved (Begins room script) (waits_of frames.old.items)) scopes.now context.old) frames.new.items scopes.now context.new) }
 {
     let script = script.known(&context.commands)?;
@@ -441,6 +449,9 @@ fn script_begins<K: Drop>(
     }
     match begun(alloc, &mut context.commands, script, room)? {
         Now::GoesOn { place, result } => {
+            if pauses && is_plain(&place) {
+                return Ok(Move::On(Now::GoesOn { place, result }));
+            }
             let level = context.levels.here(scopes);
             let now = go_on(alloc, scopes, level, frames, place, result)?;
             Ok(Move::Far(now))
@@ -449,12 +460,14 @@ fn script_begins<K: Drop>(
     }
 }
 
-/// Whether a step is needed for what is to be done, or a task is to be resumed.
-fn needs_turn<K>(now: &Now<K>) -> bool
-    ensures { result ≡ true → (waits : List (Waiting K)) → Stops (moved (doing_of now.now) waits) }
+/// Whether a step is needed for what is to be done, or a task is to be resumed; or a command with plain words is in front, where moves may stop
+/// before one.
+fn needs_turn<K>(now: &Now<K>, pauses: bool) -> bool
+    ensures { result ≡ true → (waits : List (Waiting K)) → Stops pauses (moved (doing_of now.now) waits) }
 {
     match now {
         Now::Calls { .. } | Now::Tests { .. } | Now::Steps { .. } | Now::Resumes { .. } => true,
+        Now::GoesOn { place, .. } => pauses && is_plain(place),
         _ => false,
     }
 }
@@ -467,19 +480,25 @@ fn advance<K: Drop>(
     context: &mut Context,
     frames: &mut Vec<Frame<K>>,
     now: Now<K>,
+    pauses: bool,
 ) -> Result<Move<K>, AllocError>
-    ensures { IfOk result (MoveGives (standing_of now frames.old.items scopes.old context.old) frames.new.items scopes.new context.new) }
+    ensures { IfOk result (MoveGives pauses (standing_of now frames.old.items scopes.old context.old) frames.new.items scopes.new context.new) }
 {
     match now {
-        Now::Begins { room, script } => script_begins(alloc, scopes, context, frames, script, room),
+        Now::Begins { room, script } => {
+            script_begins(alloc, scopes, context, frames, script, room, pauses)
+        }
         Now::GoesOn { place, result } => {
+            if pauses && is_plain(&place) {
+                return Ok(Move::Due(Now::GoesOn { place, result }));
+            }
             let level = context.levels.here(scopes);
             let now = go_on(alloc, scopes, level, frames, place, result)?;
             Ok(Move::On(now))
         }
         Now::Ends { code, text } => match wake(frames) {
             Some(Frame::ForCommand(place)) => {
-                command_ended(alloc, scopes, context, frames, place, code, text)
+                command_ended(alloc, scopes, context, frames, place, code, text, pauses)
             }
             Some(frame) => {
                 let now = ended(alloc, scopes, context, frames, frame, code, text)?;
@@ -513,7 +532,8 @@ fn advance<K: Drop>(
     }
 }
 
-/// Moves on without a step, up to where a step is needed, a script is to be read, a task is to be resumed, or all has ended.
+/// Moves on without a step, up to where a step is needed, a script is to be read, a task is to be resumed, or all has ended; or, if it
+/// pauses, up to a command with plain words.
 #[inline(always)]
 pub fn quiet<K: Drop>(
     alloc: Global,
@@ -521,16 +541,17 @@ pub fn quiet<K: Drop>(
     context: &mut Context,
     frames: &mut Vec<Frame<K>>,
     now: Now<K>,
+    pauses: bool,
 ) -> Next<K>
     ensures leads { IfOk result (λ due. Leads (standing_of now frames.old.items scopes.old context.old)
         (standing_of due frames.new.items scopes.new context.new)) }
-    ensures due { IfOk result (λ due. Stops (moved_of due frames.new.items)) }
+    ensures due { IfOk result (λ due. Stops pauses (moved_of due frames.new.items)) }
 {
     let mut doing = now;
     loop {
-        match advance(alloc, scopes, context, frames, doing)? {
+        match advance(alloc, scopes, context, frames, doing, pauses)? {
             Move::On(next) => {
-                if needs_turn(&next) {
+                if needs_turn(&next, pauses) {
                     return Ok(next);
                 }
                 doing = next;

@@ -1,13 +1,15 @@
-ghost use Rattle.std.specs.Prelude.{◌≡◌, ◌≤◌, ◌+◌, IfOk, List};
+ghost use Rattle.std.specs.Prelude.{◌≡◌, ◌<◌, ◌≤◌, ◌+◌, ◌*◌, true, IfOk, List};
 ghost use Rattle.tcl_interp.specs.Finish.{Waiting};
 ghost use Rattle.tcl_interp.specs.Moves.{begin_move, moved};
 ghost use Rattle.tcl_interp.specs.Quiet.{IsDue, Leads};
 ghost use Rattle.tcl_interp.specs.Rests.{moved_of, doing_of, standing_of};
 ghost use Rattle.tcl_interp.specs.Runs.{Comes, IfPaused};
-ghost use Rattle.tcl_interp.specs.Steps.{NeedsStep, IsSettled, TakesStep, TakesNone, finish_from};
+ghost use Rattle.tcl_interp.specs.Steps.{GoesByStep, NeedsStep, IsSettled, TakesStep, TakesSteps, TakesNone, finish_from, pauses_left};
 
 use crate::machine::{Frame, Next, Now};
 use crate::moves::{begun, quiet};
+use crate::onward::run_commands;
+use crate::simple::Gone;
 use crate::steps::{call, resume, test};
 use crate::tasks::Tasks;
 use std::alloc::{AllocError, Global};
@@ -48,7 +50,8 @@ fn begin_unread<T: Tasks>(
     begun(alloc, &mut context.commands, source, room)
 }
 
-/// Moves on without a step, and reads what is to be read, up to where a step is needed, a task is to be resumed, or all has ended.
+/// Moves on without a step, and reads what is to be read, up to where a step is needed, a task is to be resumed, or all has ended; or, if it
+/// pauses, up to a command with plain words.
 fn read_on<T: Tasks>(
     alloc: Global,
     tasks: &mut T,
@@ -56,16 +59,17 @@ fn read_on<T: Tasks>(
     context: &mut Context,
     frames: &mut Vec<Frame<T::Task>>,
     now: Now<T::Task>,
+    pauses: bool,
 ) -> Next<T::Task>
     ensures leads { IfOk result (λ due. Leads (standing_of now frames.old.items scopes.old context.old)
         (standing_of due frames.new.items scopes.new context.new)) }
-    ensures due { IfOk result (λ due. IsDue (moved_of due frames.new.items)) }
+    ensures due { IfOk result (λ due. IsDue pauses (moved_of due frames.new.items)) }
     ensures shows { T.shows tasks.new ≡ T.shows tasks.old }
     ensures left { T.left_alone tasks.new ≡ T.left_alone tasks.old }
 {
     let mut doing = now;
     'scripts: loop {
-        match quiet(alloc, scopes, context, frames, doing)? {
+        match quiet(alloc, scopes, context, frames, doing, pauses)? {
             Now::Begins { room, script } => {
                 doing = begin_unread(alloc, tasks, context, script, room)?;
             }
@@ -74,8 +78,8 @@ fn read_on<T: Tasks>(
     }
 }
 
-/// Moves on without a step, through tasks too, up to where a step is needed or all has ended.
-#[inline]
+/// Moves on without a step, through tasks too, up to where a step is needed or all has ended; or, if it pauses, up to a command with plain
+/// words.
 fn settle<T: Tasks>(
     alloc: Global,
     tasks: &mut T,
@@ -83,15 +87,16 @@ fn settle<T: Tasks>(
     context: &mut Context,
     frames: &mut Vec<Frame<T::Task>>,
     now: Now<T::Task>,
+    pauses: bool,
 ) -> Next<T::Task>
     ensures ok { IfOk result (λ settled. TakesNone T.outside (standing_of now frames.old.items scopes.old context.old) (T.shows tasks.old)
         (standing_of settled frames.new.items scopes.new context.new) (T.shows tasks.new)) }
-    ensures settled { IfOk result (λ settled. IsSettled (moved_of settled frames.new.items)) }
+    ensures settled { IfOk result (λ settled. IsSettled pauses (moved_of settled frames.new.items)) }
     ensures left { T.left_alone tasks.new ≡ T.left_alone tasks.old }
 {
     let mut doing = now;
     'moves: loop {
-        match read_on(alloc, tasks, scopes, context, frames, doing)? {
+        match read_on(alloc, tasks, scopes, context, frames, doing, pauses)? {
             Now::Resumes {
                 room,
                 task,
@@ -146,24 +151,53 @@ fn take_step<T: Tasks>(
     }
 }
 
-/// Takes a step, and moves on up to where the next one is needed.
-#[inline]
-fn step_on<T: Tasks>(
+/// Whether steps were taken.
+fn went(steps: u64) -> bool
+    ensures { result ≡ true → 0 < steps }
+{
+    steps > 0
+}
+
+/// Goes on from a command, or takes a step, for so many steps at most; and moves on up to the next command with plain words, or to where the next
+/// step is needed. Where no step was taken, it is needed then. Each is counted before it is taken, so that none is lost where memory is refused.
+fn proceed<T: Tasks>(
     alloc: Global,
     tasks: &mut T,
     scopes: &mut Scopes,
     context: &mut Context,
     frames: &mut Vec<Frame<T::Task>>,
     now: Now<T::Task>,
-) -> Next<T::Task>
-    requires { NeedsStep (doing_of now) }
-    ensures ok { IfOk result (λ next. TakesStep T.outside (standing_of now frames.old.items scopes.old context.old) (T.shows tasks.old)
-        (standing_of next frames.new.items scopes.new context.new) (T.shows tasks.new)) }
-    ensures settled { IfOk result (λ next. IsSettled (moved_of next frames.new.items)) }
+    most: u64,
+    left: &mut u64,
+) -> Result<Gone<T::Task>, AllocError>
+    requires doing { GoesByStep (doing_of now) }
+    requires some { 0 < most }
+    requires there { most ≤ left.old }
+    ensures ok { IfOk result (λ gone. TakesSteps T.outside gone.steps (standing_of now frames.old.items scopes.old context.old) (T.shows tasks.old)
+        (standing_of gone.now frames.new.items scopes.new context.new) (T.shows tasks.new)) }
+    ensures settled { IfOk result (λ gone. IsSettled true (moved_of gone.now frames.new.items)) }
+    ensures most { IfOk result (λ gone. gone.steps ≤ most) }
+    ensures on { IfOk result (λ gone. pauses_left (doing_of gone.now) + 1 ≤ 2 * gone.steps + pauses_left (doing_of now)) }
+    ensures counted { IfOk result (λ gone. gone.steps + left.new ≡ left.old) }
+    ensures taken { left.new ≤ left.old }
+    ensures within { left.old ≤ left.new + most }
     ensures left { T.left_alone tasks.new ≡ T.left_alone tasks.old }
 {
-    let next = take_step(alloc, tasks, scopes, context, frames, now)?;
-    settle(alloc, tasks, scopes, context, frames, next)
+    match now {
+        Now::GoesOn { place, result } => {
+            let Gone { now, steps } = run_commands(
+                alloc, tasks, scopes, context, frames, place, result, most, left,
+            )?;
+            let now = settle(alloc, tasks, scopes, context, frames, now, went(steps))?;
+            Ok(Gone { now, steps })
+        }
+        needed => {
+            *left -= 1;
+            let next = take_step(alloc, tasks, scopes, context, frames, needed)?;
+            let now = settle(alloc, tasks, scopes, context, frames, next, true)?;
+            Ok(Gone { now, steps: 1 })
+        }
+    }
 }
 
 /// How far a slice came.
@@ -197,20 +231,20 @@ pub fn run<T: Tasks>(
     ensures taken { left.new ≤ left.old }
     ensures left_alone { T.left_alone tasks.new ≡ T.left_alone tasks.old }
 {
-    let mut doing = settle(alloc, tasks, scopes, context, frames, now)?;
-    for taken in 0..steps {
+    let mut doing = settle(alloc, tasks, scopes, context, frames, now, true)?;
+    let mut taken = 0;
+    'turns: while taken < steps && *left > 0 {
         match doing {
             Now::Ends { code, text } => return Ok(Ran::Ended(code, text)),
             needed => {
-                if *left == 0 {
-                    return Ok(Ran::Spent);
-                }
-                *left -= 1;
-                doing = step_on(alloc, tasks, scopes, context, frames, needed)?;
+                let most = (steps - taken).min(*left);
+                let gone = proceed(alloc, tasks, scopes, context, frames, needed, most, left)?;
+                taken += gone.steps;
+                doing = gone.now;
             }
         }
     }
-    match doing {
+    match settle(alloc, tasks, scopes, context, frames, doing, false)? {
         Now::Ends { code, text } => Ok(Ran::Ended(code, text)),
         needed => {
             if *left == 0 {

@@ -88,7 +88,7 @@ fn joined(alloc: Global, so_far: Text, text: Text) -> Result<Option<Text>, Alloc
     }
 }
 
-fn put_pieces(
+pub fn put_pieces(
     alloc: Global,
     scopes: &Scopes,
     level: usize,
@@ -124,14 +124,14 @@ fn put_pieces(
 
 /// The commands of a script.
 #[tactic(auto, using(tcl_table::proofs::SourceLemmas::script_walk))]
-fn commands(script: &Script) -> &[Command]
+pub fn commands(script: &Script) -> &[Command]
     ensures { result.now ≡ commands_in script.now }
 {
     script.commands()
 }
 
 /// The words of the command that is next.
-fn next_words(place: &ScriptPlace) -> &[Word]
+pub fn next_words(place: &ScriptPlace) -> &[Word]
     ensures { result.now ≡ words_in_front (left_in place.now) }
 {
     match commands(&place.script).get(place.next) {
@@ -141,7 +141,7 @@ fn next_words(place: &ScriptPlace) -> &[Word]
 }
 
 /// The pieces of a word.
-fn pieces_at(words: &[Word], index: usize) -> &[Piece]
+pub fn pieces_at(words: &[Word], index: usize) -> &[Piece]
     ensures { result.now ≡ pieces_in_front (drop index words.now) }
 {
     match words.get(index) {
@@ -151,7 +151,7 @@ fn pieces_at(words: &[Word], index: usize) -> &[Piece]
 }
 
 /// Whether the word at an index is a list of words.
-fn expand_at(words: &[Word], index: usize) -> bool
+pub fn expand_at(words: &[Word], index: usize) -> bool
     ensures { result ≡ expand_in_front (drop index words.now) }
 {
     match words.get(index) {
@@ -236,7 +236,7 @@ pub fn begin_for<K: Drop>(
 }
 
 /// A script past the command that is next.
-fn past_command(place: ScriptPlace) -> ScriptPlace
+pub fn past_command(place: ScriptPlace) -> ScriptPlace
     ensures room { result.room ≡ place.room }
     ensures left { left_in result ≡ drop (place.next + 1) (commands_in place.script) }
 {
@@ -270,7 +270,7 @@ fn called<K: Drop>(
 
 /// The text of the word at an index, where that is one text or the value of one variable, as most words are: it needs no text
 /// of its own.
-fn single_text(
+pub fn single_text(
     scopes: &Scopes,
     level: usize,
     words: &[Word],
@@ -290,6 +290,28 @@ fn single_text(
         },
         _ => Ok(None),
     }
+}
+
+/// Whether a piece is a text or the value of a variable.
+fn is_plain_piece(piece: &Piece) -> bool {
+    matches!(piece, Piece::Literal(_) | Piece::Variable(_))
+}
+
+/// Whether a word may be put together at once: its pieces are texts and values of variables, or it is an expression in brackets.
+fn is_plain_word(word: &Word) -> bool {
+    match word.pieces.as_slice() {
+        [Piece::Bracket(script)] => match script.commands() {
+            [command] => command.words.as_slice().len() == 2 && !word.expand,
+            _ => false,
+        },
+        pieces => !word.expand && pieces.iter().all(is_plain_piece),
+    }
+}
+
+/// Whether there is a next command whose words may be put together at once. It may be any answer: where they can't be, a try is lost.
+pub fn is_plain(place: &ScriptPlace) -> bool {
+    let words = next_words(place);
+    !words.is_empty() && words.iter().all(is_plain_word)
 }
 
 /// Puts the words of the command that is next together, from this one on, until a script is to be run.

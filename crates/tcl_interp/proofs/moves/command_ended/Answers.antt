@@ -1,5 +1,5 @@
 -- The script goes on behind the command, and its next command begins.
-use Rattle.std.proofs.Common.{◌≡◌, ℕ, zero, suc, List, [], ◌∷◌, refl, ap}
+use Rattle.std.proofs.Common.{◌≡◌, ℕ, List, ◌∷◌, refl, ap}
 use Rattle.tcl_words.specs.declared.script.Command.{Command}
 use Rattle.tcl_vars.specs.Store.{Store}
 use Rattle.tcl_control.specs.declared.code.Code.TheVariants.{Normal}

@@ -1,11 +1,11 @@
 -- A script that could be read goes on with its first command.
-use Rattle.std.proofs.Common.{◌≡◌, ℕ, zero, suc, List, [], ◌∷◌, refl, ap, ◌∙◌}
+use Rattle.std.proofs.Common.{◌≡◌, ℕ, List, refl, ap, ◌∙◌}
 use Rattle.tcl_words.specs.declared.script.Command.{Command}
 use Rattle.tcl_vars.specs.Store.{Store}
 use Rattle.tcl_control.specs.declared.context.Context.{Context}
 use Rattle.tcl_control.specs.Levels.{here}
 use Rattle.tcl_interp.specs.Finish.{Waiting, Begins, GoesOn}
-use Rattle.tcl_interp.specs.Moves.{Moved, Standing, moved, standing, begin_move, go_on_move}
+use Rattle.tcl_interp.specs.Moves.{Moved, moved, standing, begin_move, go_on_move}
 use Rattle.tcl_interp.specs.Quiet.{MovesOn}
 use Rattle.tcl_interp.specs.Rests.{left_in, waits_of}
 use Rattle.tcl_interp.proofs.moves.script_begins.Goals as goal

@@ -1,9 +1,9 @@
 -- A script that is read begins, by one move.
-use Rattle.std.proofs.Common.{◌≡◌, ◌<◌, ℕ, List, ap, ◌∙◌, arith}
+use Rattle.std.proofs.Common.{◌≡◌, ℕ, List, ap, ◌∙◌, arith}
 use Rattle.tcl_vars.specs.Store.{Store}
 use Rattle.tcl_control.specs.declared.context.Context.{Context}
 use Rattle.tcl_interp.specs.Finish.{Begins, Waiting}
-use Rattle.tcl_interp.specs.Moves.{Moved, Standing, begin_move, moved, standing}
+use Rattle.tcl_interp.specs.Moves.{Moved, begin_move, moved, standing}
 use Rattle.tcl_interp.specs.Quiet.{Leads, Moves}
 use Rattle.tcl_interp.specs.Rests.{standing_of, waits_of}
 use Rattle.tcl_interp.proofs.Settled.{stops_due}
@@ -48,7 +48,7 @@ returns-in_default g c =
     let n = standing_of c.in_ok-due.due c.quiet.new.frames.items c.quiet.new.scopes c.quiet.new.context in
     record {
       leads = leads_all start m n c.scripts.invariant.leads c.in_ok-due.ensures.leads;
-      due = stops_due c.in_ok-due.due (waits_of c.quiet.new.frames.items) c.in_ok-due.ensures.due c.in_default.not-Begins;
+      due = stops_due c.args.pauses c.in_ok-due.due (waits_of c.quiet.new.frames.items) c.in_ok-due.ensures.due c.in_default.not-Begins;
       shows = c.scripts.invariant.shows;
       left = c.scripts.invariant.left;
     }

@@ -53,6 +53,6 @@ returns-in_default g c =
     let n = standing_of c.in_ok-settled.settled c.read_on.new.frames.items c.read_on.new.scopes c.read_on.new.context in
     record {
       ok = λ left. c.moves.invariant.same left ∙ ap (λ s. finish_from outside m s left) (sym c.read_on.ensures.shows) ∙ leads_none outside m n (g.T.Tasks.shows c.read_on.new.tasks) c.in_ok-settled.ensures.leads left;
-      settled = due_settled c.in_ok-settled.settled (waits_of c.read_on.new.frames.items) c.in_ok-settled.ensures.due c.in_default.not-Resumes;
+      settled = due_settled c.args.pauses c.in_ok-settled.settled (waits_of c.read_on.new.frames.items) c.in_ok-settled.ensures.due c.in_default.not-Resumes;
       left = c.read_on.ensures.left ∙ c.moves.invariant.left;
     }

@@ -1,4 +1,5 @@
--- Steps. A bag of items, each with an owner and a value that has a number, and what one owner has in it, in the order of numbers.
+-- Meaning. A bag of items, each with an owner and a value that has a number, and what one owner has in it, in the order of numbers: what one
+-- application has in a table that all share.
 use Rattle.std.specs.Prelude.{◌≡◌, ◌<◌, ℕ, Bool, false, List, [], ◌∷◌, ◌==◌, not, filter, find, map, nat_le, Option, if◌then◌else◌}
 
 pub record Item (X : Type 0) : Type 0 where

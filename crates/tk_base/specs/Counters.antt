@@ -1,4 +1,4 @@
--- Steps. The counters of applications, by their numbers.
+-- Meaning. The counters of applications, by their numbers.
 use Rattle.std.specs.Prelude.{◌≡◌, ◌≢◌, ℕ, nat_eq, List}
 use Rattle.std.specs.Map.{lookup}
 use Rattle.std.specs.Option.{option_map_or}

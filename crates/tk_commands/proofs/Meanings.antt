@@ -10,7 +10,7 @@ use Rattle.tk_panel.specs.declared.job.Rest.TheVariants.{Destroys as DestroysRes
 use Rattle.tk_panel.specs.Next.{next}
 use Rattle.tk_panel.specs.Panel.{Panel}
 use Rattle.tk_panel.specs.Settle.{Next}
-use Rattle.tk_panel.specs.Start.{alone}
+use Rattle.tk_panel.specs.Start.{without_event}
 use Rattle.tk_panel.specs.declared.job.Home.TheVariants.{Settle}
 use Rattle.tk_commands.specs.Calls.{calls}
 use Rattle.tk_commands.specs.Moment.{settling}
@@ -27,14 +27,14 @@ comes room job state =
     jobs.unrolls course calls room job state ∙ by_next room there.1 (with_panel there.0 state)
 
 pub settles : Settles
-settles room ids home state = comes room (alone (Rounds ids home)) state
+settles room ids home state = comes room (without_event (Rounds ids home)) state
 
 pub destroys : Destroys
-destroys room window doomed paths state = comes room (alone (DestroysRest window doomed paths)) state
+destroys room window doomed paths state = comes room (without_event (DestroysRest window doomed paths)) state
 
 pub dispatches : Dispatches
 dispatches room script scripts rest state = (
-  comes room (event_job [] rest) state ∙ sym (comes room (alone rest) state),
+  comes room (event_job [] rest) state ∙ sym (comes room (without_event rest) state),
   comes room (event_job (script ∷ scripts) rest) state,
 )
 

@@ -1,10 +1,9 @@
 -- Steps. The course of an application's jobs: what comes next of each, what that starts, and what the end of a script makes of it. What jobs come to,
--- the equations of tk_app say (`Settles`, `Dispatches`, `Destroys`); of what stands here they have *with_end* alone.
+-- the equations of tk_app say (`Settles`, `Dispatches`, `Destroys`).
 use Rattle.std.specs.Prelude.{ℕ, List, [], Option, Some, None}
 use Rattle.tcl_vars.specs.Store.{Store}
 use Rattle.tcl_control.specs.declared.code.Code.{Code}
 use Rattle.tcl_control.specs.declared.code.Code.TheVariants.{Normal, Error, Return, Break, Continue}
-use Rattle.tcl_control.specs.Texts.{break_outside, continue_outside}
 use Rattle.tcl_interp.specs.declared.job.Looked.{Looked}
 use Rattle.tcl_interp.specs.declared.job.Looked.TheVariants.{Wants, Ends}
 use Rattle.tcl_interp.specs.declared.job.Started.{Started}
@@ -16,7 +15,8 @@ use Rattle.tk_panel.specs.Next.{next}
 use Rattle.tk_panel.specs.Panel.{Panel}
 use Rattle.tk_panel.specs.Reports.{with_line}
 use Rattle.tk_panel.specs.Settle.{Next}
-use Rattle.tk_panel.specs.Start.{alone, start}
+use Rattle.tk_panel.specs.Start.{start, without_event}
+pub use Rattle.tk_commands.specs.Ends.{with_end}
 
 -- ── what comes next, and what it starts ──
 
@@ -28,8 +28,8 @@ looked_of None = Ends Normal []
 abbrev pub look : Panel → Store → Job → Panel × Looked Job
 look panel store job = (let there : Next = next job store panel in (there.0, looked_of there.1))
 
-abbrev pub started : Panel → Store → Job → Panel × Started Job
-started panel store job = (let there : Panel × (List ℕ × Job) = start job panel in (there.0, record { script = there.1.0; job = there.1.1 }))
+abbrev pub job_started : Panel → Store → Job → Panel × Started Job
+job_started panel store job = (let there : Panel × (List ℕ × Job) = start job panel in (there.0, record { script = there.1.0; job = there.1.1 }))
 
 -- ── how a script has ended ──
 
@@ -45,17 +45,9 @@ bound_ended (Return code) text scripts rest panel = (panel, event_job scripts re
 bound_ended Break text scripts rest panel = (panel, event_job [] rest)
 bound_ended Continue text scripts rest panel = (panel, event_job scripts rest)
 
--- A timer, an idle script or the application's own: an error is told, and that a break or a continue has left it, which is one.
-abbrev pub with_end : Code → List ℕ → Panel → Panel
-with_end Normal text panel = panel
-with_end Error text panel = with_line Errors text panel
-with_end (Return code) text panel = panel
-with_end Break text panel = with_line Errors break_outside panel
-with_end Continue text panel = with_line Errors continue_outside panel
-
 abbrev pub ended_by : Option (List (List ℕ)) → Rest → Code → List ℕ → Panel → Panel × Job
 ended_by (Some scripts) rest code text panel = bound_ended code text scripts rest panel
-ended_by None rest code text panel = (with_end code text panel, alone rest)
+ended_by None rest code text panel = (with_end code text panel, without_event rest)
 
 abbrev pub ended : Code → List ℕ → Panel → Job → Panel × Job
 ended code text panel job = ended_by job.event job.rest code text panel
@@ -63,6 +55,6 @@ ended code text panel job = ended_by job.event job.rest code text panel
 abbrev pub course : Course Panel Job
 course = record {
   look = λ panel store job. look panel store job;
-  start = λ panel store job. started panel store job;
+  start = λ panel store job. job_started panel store job;
   ended = λ code text panel job. ended code text panel job;
 }

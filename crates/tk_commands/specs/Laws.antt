@@ -17,7 +17,7 @@ use Rattle.tk_panel.specs.declared.job.Rest.TheVariants.{Destroys as DestroysRes
 use Rattle.tk_panel.specs.Destroy.{destroy_next}
 use Rattle.tk_panel.specs.Panel.{Panel}
 use Rattle.tk_panel.specs.Settle.{Next, rounds_next}
-use Rattle.tk_panel.specs.Start.{alone, start}
+use Rattle.tk_panel.specs.Start.{start, without_event}
 use Rattle.tk_commands.specs.Calls.{calls}
 use Rattle.tk_commands.specs.Moment.{settling}
 use Rattle.tk_commands.specs.Course.{bound_ended, course, ended, event_job, with_end}
@@ -62,7 +62,7 @@ after_bound room scripts rest state code text =
 
 abbrev pub Dispatches : Type 0
 Dispatches = (room : ℕ) (script : List ℕ) (scripts : List (List ℕ)) (rest : Rest) (state : State Panel)
-    → (meaning room (event_job [] rest) state ≡ meaning room (alone rest) state)
+    → (meaning room (event_job [] rest) state ≡ meaning room (without_event rest) state)
     × (meaning room (event_job (script ∷ scripts) rest) state
     ≡ with_step state (λ state. and_then (at_global room script state) (after_bound room scripts rest)))
 
@@ -70,11 +70,11 @@ Dispatches = (room : ℕ) (script : List ℕ) (scripts : List (List ℕ)) (rest 
 
 abbrev pub Settles : Type 0
 Settles = (room : ℕ) (ids : List ℕ) (home : Home) (state : State Panel)
-    → meaning room (alone (Rounds ids home)) state ≡ comes_next room state (rounds_next ids home state.store state.shows)
+    → meaning room (without_event (Rounds ids home)) state ≡ comes_next room state (rounds_next ids home state.store state.shows)
 
 abbrev pub Destroys : Type 0
 Destroys = (room : ℕ) (window : Option ℕ) (doomed : List ℕ) (paths : List (List ℕ)) (state : State Panel)
-    → meaning room (alone (DestroysRest window doomed paths)) state ≡ comes_next room state (destroy_next window doomed paths state.shows)
+    → meaning room (without_event (DestroysRest window doomed paths)) state ≡ comes_next room state (destroy_next window doomed paths state.shows)
 
 -- ── the beginning ──
 

@@ -5,6 +5,7 @@ pub mod Class
 pub mod Commands
 pub mod Course
 pub mod Dispatch
+pub mod Ends
 pub mod Laws
 pub mod Moment
 pub mod Outcomes

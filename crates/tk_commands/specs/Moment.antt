@@ -9,7 +9,7 @@ use Rattle.tk_panel.specs.declared.job.Job.{Job}
 use Rattle.tk_panel.specs.declared.job.Rest.TheVariants.{Destroys, Rounds}
 use Rattle.tk_panel.specs.Commands.{after_told, clock_words, puts_words}
 use Rattle.tk_panel.specs.Panel.{Panel}
-use Rattle.tk_panel.specs.Start.{alone}
+use Rattle.tk_panel.specs.Start.{without_event}
 use Rattle.tk_commands.specs.declared.moment.MomentCommand.{MomentCommand}
 use Rattle.tk_commands.specs.declared.moment.MomentCommand.TheVariants as command
 use Rattle.tk_commands.specs.declared.outcome.CommandOutcome.{CommandOutcome}
@@ -18,11 +18,11 @@ use Rattle.tk_commands.specs.Outcomes.{Told, answered, outcome_of, told}
 
 -- what is to be done at the moment, where nothing is under way
 abbrev pub settling : Home → Job
-settling home = alone (Rounds [] home)
+settling home = without_event (Rounds [] home)
 
 -- the windows of these paths are to be destroyed
 abbrev pub destroying : List (List ℕ) → Job
-destroying paths = alone (Destroys None [] paths)
+destroying paths = without_event (Destroys None [] paths)
 
 -- update idletasks
 abbrev pub idle_words : List (List ℕ) → CommandOutcome

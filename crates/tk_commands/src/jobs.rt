@@ -4,7 +4,7 @@ ghost use Rattle.tcl_vars.specs.Store.{Store};
 ghost use Rattle.tk_panel.specs.Panel.{LeavesOthers, panel_of};
 ghost use Rattle.tk_panel.specs.Reports.{with_line};
 ghost use Rattle.tk_commands.specs.Calls.{begun};
-ghost use Rattle.tk_commands.specs.Course.{bound_ended, ended, event_job, look, looked_of, started, with_end};
+ghost use Rattle.tk_commands.specs.Course.{bound_ended, ended, event_job, job_started, look, looked_of, with_end};
 
 use std::alloc::{AllocError, Global};
 use tcl_control::{STRAY_BREAK, STRAY_CONTINUE};
@@ -40,7 +40,7 @@ pub fn look(
 
 /// Starts what a job waited for, whose step is taken.
 pub fn start(tables: &mut Tables, slot: usize, job: Job) -> Result<Started<Job>, AllocError>
-    ensures own { IfOk result (λ started'. (store : Store) → (panel_of slot tables.new, started') ≡ started (panel_of slot tables.old) store job) }
+    ensures own { IfOk result (λ started'. (store : Store) → (panel_of slot tables.new, started') ≡ job_started (panel_of slot tables.old) store job) }
     ensures others { LeavesOthers slot tables.old tables.new }
 {
     let (script, job) = tk_panel::start(tables, slot, job)?;

@@ -105,16 +105,16 @@ pointer_line event x y = record { moment = event.moment; state = event.state; x 
 abbrev pub key_line : LocalEvent → ℕ → KeyLine
 key_line event key = record { moment = event.moment; state = event.state; key = key }
 
-abbrev pub delivered_as : LocalKind → LocalEvent → Own → Arrivals → Arrivals
-delivered_as (kinds.Position x y) event own arrivals = moved_by (pointer_line event x y) own arrivals
-delivered_as (kinds.Press button x y) event own arrivals = pressed_by button (pointer_line event x y) own arrivals
-delivered_as (kinds.Release button x y) event own arrivals = released_by button (pointer_line event x y) own arrivals
-delivered_as (kinds.Keydown key) event own arrivals = keyed types.Key (key_line event key) own arrivals
-delivered_as (kinds.Keyup key) event own arrivals = keyed types.KeyRelease (key_line event key) own arrivals
-delivered_as kinds.FocusIn event own arrivals = focus_taken true event.moment own arrivals
-delivered_as kinds.FocusOut event own arrivals = focus_taken false event.moment own arrivals
-delivered_as (kinds.Size width height) event own arrivals = arrivals
+abbrev pub arrived_as : LocalKind → LocalEvent → Own → Arrivals → Arrivals
+arrived_as (kinds.Position x y) event own arrivals = moved_by (pointer_line event x y) own arrivals
+arrived_as (kinds.Press button x y) event own arrivals = pressed_by button (pointer_line event x y) own arrivals
+arrived_as (kinds.Release button x y) event own arrivals = released_by button (pointer_line event x y) own arrivals
+arrived_as (kinds.Keydown key) event own arrivals = keyed types.Key (key_line event key) own arrivals
+arrived_as (kinds.Keyup key) event own arrivals = keyed types.KeyRelease (key_line event key) own arrivals
+arrived_as kinds.FocusIn event own arrivals = focus_taken true event.moment own arrivals
+arrived_as kinds.FocusOut event own arrivals = focus_taken false event.moment own arrivals
+arrived_as (kinds.Size width height) event own arrivals = arrivals
 
 -- what a line gives, with the windows as they are
-unfoldable pub delivered : LocalEvent → Own → Arrivals → Arrivals
-delivered event own arrivals = delivered_as event.kind event own arrivals
+unfoldable pub arrived : LocalEvent → Own → Arrivals → Arrivals
+arrived event own arrivals = arrived_as event.kind event own arrivals

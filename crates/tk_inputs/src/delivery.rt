@@ -20,7 +20,7 @@ use tk_tree::Windows;
 /// point outside of the main window is in no window. A new size queues nothing here: who calls this sets it.
 ///
 /// After want of memory the application may have got some of the events.
-#[tactic(auto, unfolding(crate::specs::Deliver::delivered))]
+#[tactic(auto, unfolding(crate::specs::Deliver::arrived))]
 pub fn deliver(
     alloc: Global,
     windows: &Windows,
@@ -30,7 +30,7 @@ pub fn deliver(
     event: LocalEvent,
 ) -> Result<(), AllocError>
     ensures own { OnOk result (spec.arrivals_of slot inputs.new queue.new
-        ≡ spec.delivered event (tree_of.own_of slot windows.now) (spec.arrivals_of slot inputs.old queue.old)) }
+        ≡ spec.arrived event (tree_of.own_of slot windows.now) (spec.arrivals_of slot inputs.old queue.old)) }
     ensures inputs { inputs_of.LeavesOthers slot inputs.old inputs.new }
     ensures queue { queue_of.LeavesOthers slot queue.old queue.new }
 {

@@ -5,7 +5,7 @@ use Rattle.tk_after.specs.declared.entry.Entry.{Entry}
 use Rattle.tk_after.specs.Timers.{Own, without}
 use Rattle.tk_panel.specs.declared.job.Rest.{Rest}
 use Rattle.tk_panel.specs.Panel.{Panel}
-use Rattle.tk_panel.specs.Start.{Started, alone, idle_taken, script_in}
+use Rattle.tk_panel.specs.Start.{Started, idle_taken, script_in, without_event}
 
 script_found : (entry : Option Entry) (script : List ℕ) → Some script ≡ option_map (λ (e : Entry). e.script) entry → script ≡ script_in entry
 script_found None script is = cc
@@ -17,10 +17,10 @@ nothing_found (Some entry) is = cc
 
 module _ (id : ℕ) (rest : Rest) (panel : Panel) (entry : Option Entry) (left : Own) (out : left ≡ without id panel.timers) where
   abbrev with_left : List ℕ → Started
-  with_left script = (record panel { timers = left }, (script, alone rest))
+  with_left script = (record panel { timers = left }, (script, without_event rest))
 
   abbrev on : Own → Started
-  on timers = (record panel { timers = timers }, (script_in entry, alone rest))
+  on timers = (record panel { timers = timers }, (script_in entry, without_event rest))
 
   pub idle_found : (script : List ℕ) → Some script ≡ option_map (λ (e : Entry). e.script) entry → with_left script ≡ idle_taken id rest panel entry
   idle_found script is = ap with_left (script_found entry script is) ∙ ap on out

@@ -2,7 +2,7 @@
 use Rattle.tk_base.specs.declared.local_event.LocalEvent.{LocalEvent}
 use Rattle.tk_base.specs.declared.local_event.LocalKind.{LocalKind}
 use Rattle.tk_base.specs.declared.local_event.LocalKind.TheVariants.{Size}
-use Rattle.tk_inputs.specs.Deliver.{Arrivals, delivered as arrived}
+use Rattle.tk_inputs.specs.Deliver.{Arrivals, arrived}
 use Rattle.tk_screen.specs.Own.{with_size}
 use Rattle.tk_panel.specs.Panel.{Panel}
 
@@ -19,5 +19,5 @@ with_rectangle (Size width height) panel = record panel { screen = with_size (wi
 with_rectangle kind panel = panel
 
 -- keys go to the focus window, the pointer to the window that it is in or that holds it, the host's focus to the focus window, with the windows as they are
-unfoldable pub delivered : LocalEvent → Panel → Panel
-delivered event panel = with_rectangle event.kind (with_arrivals (arrived event panel.screen.tree (arrivals_in panel)) panel)
+unfoldable pub delivered_panel : LocalEvent → Panel → Panel
+delivered_panel event panel = with_rectangle event.kind (with_arrivals (arrived event panel.screen.tree (arrivals_in panel)) panel)

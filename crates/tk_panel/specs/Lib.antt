@@ -9,6 +9,7 @@ pub mod Destroy
 pub mod Fresh
 pub mod Next
 pub mod Panel
+pub mod Removal
 pub mod Reports
 pub mod Settle
 pub mod Start

@@ -1,5 +1,5 @@
 -- Meaning. What one application has in the tables of all.
-use Rattle.std.specs.Prelude.{◌≡◌, ℕ, List, ◌==◌, filter, map, not}
+use Rattle.std.specs.Prelude.{◌≡◌, ℕ, Bool, List, ◌==◌, filter, map, not, is_none, codes}
 use Rattle.std.specs.Borrow.{GName}
 use Rattle.std.specs.List.{range_with_len}
 use Rattle.tk_after.specs.Timers as timers
@@ -11,6 +11,7 @@ use Rattle.tk_patterns.specs.declared.binding.Binding.{Binding}
 use Rattle.tk_patterns.specs.Own as bindings
 use Rattle.tk_dispatch.specs.Queue as queues
 use Rattle.tk_screen.specs.Own as screens
+use Rattle.tk_tree.specs.Own.{at_path}
 use Rattle.tk_virtual.specs.declared.pair.Pair.{Pair}
 use Rattle.tk_virtual.specs.Virtual as virtuals
 use Rattle.tk_panel.specs.declared.tables.Tables.{Tables}
@@ -33,6 +34,14 @@ pub record Panel : Type 0 where
   pub input : Input
   pub timers : timers.Own
   pub transcript : List Line
+
+-- with these events waiting
+abbrev pub with_queue : List Event → Panel → Panel
+with_queue events panel = record panel { queue = events }
+
+-- the main window is gone
+abbrev pub is_closed : Panel → Bool
+is_closed panel = is_none (at_path (codes ".") panel.screen.tree)
 
 abbrev pub panel_of : ℕ → Tables → Panel
 panel_of slot tables = record {

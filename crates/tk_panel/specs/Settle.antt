@@ -1,13 +1,11 @@
 -- Steps. What comes next at a moment (after(n), update(n)): the first that exists of a queued event, a due timer, a layout that changes something, and
--- a round of the idle scripts that wait. What all of it comes to, `Settles` of tk_app says as an equation; of what stands here it has *with_queue* and
--- *is_closed* alone.
-use Rattle.std.specs.Prelude.{ℕ, Bool, false, List, [], ◌∷◌, Option, Some, None, is_some, is_none, nat_le, codes, if◌then◌else◌}
+-- a round of the idle scripts that wait. What all of it comes to, `Settles` of tk_app says as an equation.
+use Rattle.std.specs.Prelude.{ℕ, Bool, false, List, [], ◌∷◌, Option, Some, None, is_some, nat_le, if◌then◌else◌}
 use Rattle.std.specs.Option.{option_map_or}
 use Rattle.tcl_vars.specs.Store.{Store}
 use Rattle.tk_after.specs.declared.entry.Entry.{Entry}
 use Rattle.tk_after.specs.Timers.{due_moments, entry_with, idle_ids, least}
 use Rattle.tk_sequences.specs.declared.event.Event.{Event}
-use Rattle.tk_tree.specs.Own.{at_path}
 use Rattle.tk_panel.specs.declared.job.Job.{Job}
 use Rattle.tk_panel.specs.declared.job.Home.{Home}
 use Rattle.tk_panel.specs.declared.job.Home.TheVariants.{Settle, Update, IdleTasks, LastLayout}
@@ -15,15 +13,13 @@ use Rattle.tk_panel.specs.declared.job.Rest.TheVariants.{Rounds}
 use Rattle.tk_panel.specs.Changes.{laid_out}
 use Rattle.tk_panel.specs.Choice.{chosen}
 use Rattle.tk_panel.specs.Panel.{Panel}
+pub use Rattle.tk_panel.specs.Panel.{is_closed, with_queue}
 
 -- What is left of an application, and the job whose next script waits for its step, if there is one; else the job has ended.
 abbrev pub Next : Type 0
 Next = Panel × Option Job
 
 -- ── queued events ──
-
-abbrev pub with_queue : List Event → Panel → Panel
-with_queue events panel = record panel { queue = events }
 
 -- the scripts of an event, or where it has none those of the events behind it
 abbrev pub or_later : (Panel → Panel × List (List ℕ)) → Panel → List (List ℕ) → Panel × List (List ℕ)
@@ -83,10 +79,6 @@ unfoldable pub turn : Home → Store → Panel → Next
 turn home store panel = on_queue home (on_timer home (after_layout home store)) panel
 
 -- ── when a round has ended ──
-
--- the main window is gone
-abbrev pub is_closed : Panel → Bool
-is_closed panel = is_none (at_path (codes ".") panel.screen.tree)
 
 -- the round of `update idletasks`, and then a layout more
 abbrev pub tasks_round : Store → List ℕ → Panel → Next

@@ -13,25 +13,25 @@ abbrev pub Started : Type 0
 Started = Panel × (List ℕ × Job)
 
 -- a script that is no event's
-abbrev pub alone : Rest → Job
-alone rest = record { event = None; rest = rest }
+abbrev pub without_event : Rest → Job
+without_event rest = record { event = None; rest = rest }
 
 -- the timer that is due leaves its table, and runs
 abbrev pub timer_taken : Rest → Panel → Option Entry → Started
-timer_taken rest panel (Some entry) = (record panel { timers = without entry.id panel.timers }, (entry.script, alone rest))
-timer_taken rest panel None = (panel, ([], alone rest))
+timer_taken rest panel (Some entry) = (record panel { timers = without entry.id panel.timers }, (entry.script, without_event rest))
+timer_taken rest panel None = (panel, ([], without_event rest))
 
 -- so does an idle script
 abbrev pub script_in : Option Entry → List ℕ
 script_in entry = option_map_or (λ entry. entry.script) entry []
 
 abbrev pub idle_taken : ℕ → Rest → Panel → Option Entry → Started
-idle_taken id rest panel entry = (record panel { timers = without id panel.timers }, (script_in entry, alone rest))
+idle_taken id rest panel entry = (record panel { timers = without id panel.timers }, (script_in entry, without_event rest))
 
 -- the timer that is due, or the first idle script of the round
 abbrev pub start_rest : Rest → Panel → Started
-start_rest Ends panel = (panel, ([], alone Ends))
-start_rest (Destroys window doomed paths) panel = (panel, ([], alone (Destroys window doomed paths)))
+start_rest Ends panel = (panel, ([], without_event Ends))
+start_rest (Destroys window doomed paths) panel = (panel, ([], without_event (Destroys window doomed paths)))
 start_rest (Rounds [] home) panel = timer_taken (Rounds [] home) panel (first_due panel.moment panel.timers.entries)
 start_rest (Rounds (id ∷ ids) home) panel = idle_taken id (Rounds ids home) panel (entry_with id panel.timers.entries)
 

@@ -1,6 +1,6 @@
 //! What lines of the session give an application.
 ghost use Rattle.std.specs.Prelude.{◌≡◌, OnOk};
-ghost use Rattle.tk_panel.specs.Deliver.{delivered, with_rectangle};
+ghost use Rattle.tk_panel.specs.Deliver.{delivered_panel, with_rectangle};
 ghost use Rattle.tk_panel.specs.Panel.{LeavesOthers, panel_of};
 
 use crate::tables::Tables;
@@ -9,9 +9,9 @@ use tk_base::{LocalEvent, LocalKind};
 
 /// What a line gives an application: the events that it queues, at once, and the size of its rectangle. The event's moment is its own; the keys and
 /// the pointer are as `tk_inputs` has them.
-#[tactic(auto, unfolding(crate::specs::Deliver::delivered))]
+#[tactic(auto, unfolding(crate::specs::Deliver::delivered_panel))]
 pub fn deliver(tables: &mut Tables, slot: usize, event: LocalEvent) -> Result<(), AllocError>
-    ensures own { OnOk result (panel_of slot tables.new ≡ delivered event (panel_of slot tables.old)) }
+    ensures own { OnOk result (panel_of slot tables.new ≡ delivered_panel event (panel_of slot tables.old)) }
     ensures others { LeavesOthers slot tables.old tables.new }
 {
     let kind = event.kind;

@@ -1,6 +1,7 @@
 //! Windows that are destroyed (destroy(n)).
 ghost use Rattle.std.specs.Prelude.{◌≡◌, IfOk, OnOk};
-ghost use Rattle.tk_panel.specs.Destroy.{all_dying, all_dying_in, destroy_chosen, destroy_event, destroy_next, destroys, doomed_by, marked, next_doomed, removed, without_last};
+ghost use Rattle.tk_panel.specs.Destroy.{destroy_chosen, destroy_next, destroys, next_doomed, without_last};
+ghost use Rattle.tk_panel.specs.Removal.{all_dying, all_dying_in, destroy_event, doomed_by, marked, removed};
 ghost use Rattle.tk_panel.specs.Panel.{LeavesOthers, panel_of};
 ghost use Rattle.tk_screen.specs.Own as screens;
 ghost use Rattle.tk_tree.specs.Change.{dying};
@@ -28,7 +29,7 @@ fn mark_dying(windows: &mut Windows, win: Win)
 }
 
 /// So are these.
-#[tactic(auto, unfolding(crate::specs::Destroy::all_dying))]
+#[tactic(auto, unfolding(crate::specs::Removal::all_dying))]
 fn mark_all(windows: &mut Windows, slot: usize, numbers: &[u64])
     ensures own { own_of slot windows.new ≡ all_dying numbers.now (own_of slot windows.old) }
     ensures others { LeavesWindows slot windows.old windows.new }
@@ -81,7 +82,7 @@ fn doom(tables: &mut Tables, slot: usize, path: &Text) -> Result<Numbers, AllocE
 }
 
 /// A window goes, if it is still there, and the bindings for its path with it. The keys, the pointer and a press no longer mean it.
-#[tactic(auto, unfolding(crate::specs::Destroy::removed))]
+#[tactic(auto, unfolding(crate::specs::Removal::removed))]
 fn remove(tables: &mut Tables, slot: usize, number: u64) -> Result<(), AllocError>
     ensures own { OnOk result (panel_of slot tables.new ≡ removed number (panel_of slot tables.old)) }
     ensures others { LeavesOthers slot tables.old tables.new }

@@ -1,7 +1,7 @@
 //! What starts once its step is taken.
 ghost use Rattle.std.specs.Prelude.{◌≡◌, IfOk};
 ghost use Rattle.tk_panel.specs.Panel.{LeavesOthers, panel_of};
-ghost use Rattle.tk_panel.specs.Start.{alone, idle_taken, start, start_rest, timer_taken};
+ghost use Rattle.tk_panel.specs.Start.{idle_taken, start, start_rest, timer_taken, without_event};
 ghost use Rattle.tk_after.specs.Timers.{entry_with, first_due};
 
 use crate::Numbers;
@@ -11,8 +11,8 @@ use std::alloc::AllocError;
 use tcl_text::Text;
 
 /// A script that is no event's, and the job behind it.
-fn alone(script: Text, rest: Rest) -> (Text, Job)
-    ensures { result ≡ (script, alone rest) }
+fn without_event(script: Text, rest: Rest) -> (Text, Job)
+    ensures { result ≡ (script, without_event rest) }
 {
     (script, Job { event: None, rest })
 }
@@ -32,8 +32,8 @@ fn start_timer(
     let moment = tables.clock.moment();
     let rest = Rest::Rounds { round, home };
     match tables.timers.take_due(slot, moment) {
-        Some((_id, script)) => Ok(alone(script, rest)),
-        None => Ok(alone(Text::empty(), rest)),
+        Some((_id, script)) => Ok(without_event(script, rest)),
+        None => Ok(without_event(Text::empty(), rest)),
     }
 }
 
@@ -51,8 +51,8 @@ fn start_idle(
 {
     let rest = Rest::Rounds { round, home };
     match tables.timers.cancel(slot, id) {
-        Some(script) => Ok(alone(script, rest)),
-        None => Ok(alone(Text::empty(), rest)),
+        Some(script) => Ok(without_event(script, rest)),
+        None => Ok(without_event(Text::empty(), rest)),
     }
 }
 
@@ -69,7 +69,7 @@ fn start_rest(tables: &mut Tables, slot: usize, rest: Rest) -> Result<(Text, Job
                 None => start_timer(tables, slot, round, home),
             }
         }
-        other => Ok(alone(Text::empty(), other)),
+        other => Ok(without_event(Text::empty(), other)),
     }
 }
 

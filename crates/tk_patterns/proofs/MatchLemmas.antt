@@ -157,6 +157,11 @@ pub choice_is_walk : (sequence : Sequence) (event : Event) (history : List Event
 choice_is_walk (Physical patterns) event history = sym (ends_walk (steps_of patterns) (earlier_at event.number history) event)
 choice_is_walk (Virtual name) event history = refl
 
+-- the test of every choice is the relation
+pub choice_is_match : (sequence : Sequence) (event : Event) (history : List Event) → matches sequence event history ≡ true ↔ Matches sequence event history
+choice_is_match sequence event history =
+    (λ h. matches_sound sequence event history (choice_is_walk sequence event history ∙ h), λ h. sym (choice_is_walk sequence event history) ∙ matches_complete sequence event history h)
+
 -- ── one step of the walk ──
 pub walk_none : (step : PatternStep) (steps : List PatternStep) (events : List Event) (later : Event) → nearest step.pattern events ≡ None → walk (step ∷ steps) events later ≡ false
 walk_none step steps events later none = ap (walk_from step (walk steps) later) none

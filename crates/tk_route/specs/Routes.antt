@@ -51,8 +51,8 @@ under_in known = under known.rects known.pointer
 abbrev pub told_move : Stamp → Values → Values → List Delivery
 told_move stamp before after =
     if is_any_held before.buttons then to_pointer stamp after before.holder Position
-    else (if is_same (under_in before) (under_in after) then [] else to_pointer stamp after (under_in before) Position)
-    ++ to_pointer stamp after (under_in after) Position
+    else ((if is_same (under_in before) (under_in after) then [] else to_pointer stamp after (under_in before) Position)
+    ++ to_pointer stamp after (under_in after) Position)
 
 -- A press goes to the application that has the held buttons then: with the first press the one under the pointer. The press of a button that
 -- is held goes to nobody.
@@ -65,12 +65,12 @@ told_press button stamp before after =
 abbrev pub told_release : ℕ → Stamp → Values → Values → List Delivery
 told_release button stamp before after =
     if not (has button before.buttons) then []
-    else to_pointer stamp after before.holder (ReleaseAt button)
-    ++ (if is_any_held after.buttons || is_same before.holder (under_in after) then [] else to_pointer stamp after (under_in after) Position)
+    else (to_pointer stamp after before.holder (ReleaseAt button)
+    ++ (if is_any_held after.buttons || is_same before.holder (under_in after) then [] else to_pointer stamp after (under_in after) Position))
 
 -- Other keys go to another application: the one that had them learns it, and the one that has them.
 abbrev pub told_focus : Option ℕ → Stamp → Option ℕ → List Delivery
-told_focus slot stamp before = if is_same before slot then [] else to stamp before FocusOut ++ to stamp slot FocusIn
+told_focus slot stamp before = if is_same before slot then [] else (to stamp before FocusOut ++ to stamp slot FocusIn)
 
 -- The application of a rectangle learns its size where it has another. Then, while no button is held, it learns where the pointer is where
 -- the application under the pointer has changed: only this one can have come or gone.
@@ -108,7 +108,8 @@ routes first earlier line =
 abbrev pub events_of : ℕ → List Delivery → List LocalEvent
 events_of slot given = map (λ delivery. delivery.event) (filter (λ delivery. delivery.slot == slot) given)
 
--- what one application gets of these lines, the newest first
+-- What one application gets of these lines. As the lines stand with the newest first, so do the events: those of a line, which come one after another,
+-- are turned.
 abbrev pub routed : List Rect → List Line → ℕ → List LocalEvent
 routed first [] slot = []
 routed first (line ∷ earlier) slot = reverse (events_of slot (routes first earlier line)) ++ routed first earlier slot

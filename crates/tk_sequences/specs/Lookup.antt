@@ -1,4 +1,4 @@
--- Steps. Tables of words.
+-- Meaning. Tables of words.
 use Rattle.std.specs.Prelude.{ℕ, List, [], ◌∷◌, Option, Some, None, if◌then◌else◌}
 use Rattle.std.specs.Str.{bytes_eq}
 

@@ -1,4 +1,5 @@
--- Steps. What a text says as an event sequence, and why one is refused.
+-- Steps. What a text says as an event sequence, and why one is refused, as a function that goes from byte to byte. What it is says `Grammar`, as a
+-- relation on the whole text; that they are one, the laws `sequences_are_read` and `faults_are_told`.
 use Rattle.std.specs.Prelude.{◌≡◌, ℕ, ◌+◌, ◌-◌, Bool, true, false, ◌&&◌, ◌||◌, ◌==◌, not, nat_lt, nat_le, bit_or, if◌then◌else◌, List, [], ◌∷◌, ◌++◌, length, take, drop, filter, Option, Some, None, option_map, Result, Ok, Err, codes}
 use Rattle.std.specs.List.{list_all, prefix_len, slice_split}
 use Rattle.std.specs.Option.{option_or}

@@ -6,7 +6,7 @@ pub mod Hindrances
 pub mod Scripts
 pub mod AliasLaws
 pub mod EventLaws
-mod FirstFormat
+pub mod FirstFormat
 pub mod Complete
 pub mod Sound
 pub mod Single

@@ -1,5 +1,6 @@
 //! What a session comes to. The functions do nothing: their contracts are the laws.
 ghost use Rattle.tkhost.specs.Bounds.{SessionWithin};
+ghost use Rattle.tkhost.specs.FirstFormat.{FirstFormatSections};
 ghost use Rattle.tkhost.specs.Play.{SameBytes};
 
 use tk_host::AliasMeaning;
@@ -13,4 +14,10 @@ pub fn same_bytes<M: AliasMeaning>()
 /// A session takes at most the sum of the totals of its applications and of the steps that events grant them.
 pub fn session_within<M: AliasMeaning>()
     ensures { SessionWithin M.answer }
+{}
+
+/// A session of the first format is what it was before there was a second one: its sections are those of applications to which events grant nothing,
+/// and no rectangle moves.
+pub fn first_format_sections<M: AliasMeaning>()
+    ensures { FirstFormatSections M.answer }
 {}

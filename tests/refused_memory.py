@@ -20,11 +20,12 @@ ALL_KINDS = ("hello-and-bye", "two-buttons", "three-frames", "destroy-in-destroy
 # Tables, and the program that reads each.
 TABLES = {
     **dict.fromkeys(("commands/few", "expressions/few", "runs/few", "scopes", "scripts/few", "slices", "texts"), TABLES_OF_TCL),
-    **dict.fromkeys(("bindings/few", "dispatch/few", "options", "services/few", "timers", "virtuals", "widgets", "windows/packings/few", "windows/trees/few"), TABLES_OF_TK),
-    "calls": TABLES_OF_HOSTS,
+    **dict.fromkeys(("bindings/few", "dispatch/few", "options", "sequences/few", "services/few", "timers", "virtuals", "widgets", "windows/layouts/few",
+                     "windows/packings/few", "windows/trees/few"), TABLES_OF_TK),
+    **dict.fromkeys(("calls", "inspection"), TABLES_OF_HOSTS),
 }
 # Those of them that may be refused memory for an answer once the call has done its work, with what such a call then says the second time, if it fails.
-LATE = dict.fromkeys(("commands/few", "expressions/few", "timers", "widgets", "windows/packings/few", "windows/trees/few"), ())
+LATE = dict.fromkeys(("commands/few", "expressions/few", "timers", "widgets", "windows/layouts/few", "windows/packings/few", "windows/trees/few"), ())
 LATE["dispatch/few"] = ("a window that was refused", "no window without children")
 # How a program of tables counts the answers of one, where none is wrong.
 COUNTED = re.compile(r"\S+: \d+ answers, 0 wrong(, 1 asked again)?\n")

@@ -2,15 +2,16 @@
 //!
 //! A question is a host and the calls that it gets, each on a line of its own. The first line is the most steps of a turn. Then come `app NAME X Y W H
 //! TOTAL REFILL SCRIPT`, and `start`, which has to succeed; behind it `line MOMENT LINE` (`lines.rt`), `advance MOMENT` and `end MOMENT`.
-//! `section SLOT`, `turns` and `app` may stand anywhere, and `start` again behind the first. It is answered `=` and what the calls tell, each on a line:
+//! `section SLOT`, `turns`, `app` and what looks at an application (`looks.rt`) may stand anywhere, and `start` again behind the first. It is answered `=` and what the calls tell, each on a line:
 //! nothing where one succeeds that tells nothing, `!NUMBER` where one is refused, and of `turns` each as SLOT:STEPS.
 //!
 //! Where memory is refused to a call that leaves the host as it was, it is made once more. Where it is refused to one that breaks the host, each call
-//! behind it but `turns` has to be refused with 42, which no table can ask; the question then fails.
+//! behind it but `turns` has to be refused with 42, or to tell `none`, which no table can ask; the question then fails.
 ghost use Rattle.std.specs.Prelude.{◌≡◌, ◌≢◌, OnOk};
 ghost use Rattle.tk_host.specs.declared.phase.Phase.TheVariants.{Adding};
 
 use crate::lines::{line_of, rect_of};
+use crate::looks::{NONE, look};
 use anyhow::{Result, bail};
 use asking::{first_word, number, words_of};
 use std::alloc::Global;
@@ -90,7 +91,7 @@ fn early_once(alloc: Global, host: &mut Host<NoAlias>, call: &str) -> Result<Str
         "app" => app(alloc, host, words),
         "section" => section(alloc, host, words),
         "turns" => turns_told(alloc, host.turns()),
-        _ => bail!("no such call"),
+        _ => look(alloc, host, what, words),
     }
 }
 
@@ -128,13 +129,14 @@ pub(crate) fn late(alloc: Global, host: &mut Host<NoAlias>, call: &str) -> Resul
     }
 }
 
-/// What the calls of a host tell that was refused memory: an error where each is refused with 42, but `turns`, or else the first that isn't.
+/// What the calls of a host tell that was refused memory: an error where each is refused with 42, or tells nothing, but `turns`, or else the first that
+/// doesn't.
 fn broken(alloc: Global, host: &mut Host<NoAlias>, calls: &[&str]) -> Result<String>
     requires { host.old.held.phase ≢ Adding }
 {
     for call in calls.iter() {
         let told = late(alloc, host, call)?;
-        if told.as_str() != "!42" && !told.as_str().starts_with("turns") {
+        if told.as_str() != "!42" && told.as_str() != NONE && !told.as_str().starts_with("turns") {
             return Ok(format!(in alloc;
                 "a host that was refused memory answers {call} with {told}"
             )?);

@@ -8,6 +8,7 @@ mod calls;
 mod example;
 mod faults;
 mod lines;
+mod looks;
 mod plays;
 mod refusing;
 mod routes;
@@ -35,7 +36,7 @@ enum Part {
 impl Fixture for Part {
     fn new(alloc: Global, table: &str) -> Result<Part> {
         match table {
-            "calls" => Ok(Part::Calls),
+            "calls" | "inspection" => Ok(Part::Calls),
             "embedding" => Ok(Part::Embedding),
             "faults" => Ok(Part::Faults),
             "refusing" => Ok(Part::Refusing),

@@ -30,7 +30,7 @@ use Rattle.tk_panel.specs.Choice.{chosen}
 use Rattle.tk_panel.specs.Next.{next}
 use Rattle.tk_panel.specs.Panel.{Panel}
 use Rattle.tk_panel.specs.Settle.{Next}
-use Rattle.tk_panel.specs.Start.{alone}
+use Rattle.tk_panel.specs.Start.{without_event}
 use Rattle.tk_commands.specs.Binding.{binding_command_done, binding_command_named, event_told}
 use Rattle.tk_commands.specs.Calls.{calls as panel_calls, outcome_told}
 use Rattle.tk_commands.specs.Class.{ClassDone, class_command, class_told, outcome_for}
@@ -127,8 +127,8 @@ destroy_begins room paths state none =
     began room (codes "destroy") paths state state.shows.panel state.store (destroying paths) none refl refl ∙ destroys_all room paths state
 
 -- the job of an event's scripts, with nothing behind it
-ends_alone : (room : ℕ) (state : State Seen) → meaning room (alone NoRest) state ≡ ends_there state
-ends_alone room state = goes_by_next room (alone NoRest) state
+ends_without_event : (room : ℕ) (state : State Seen) → meaning room (without_event NoRest) state ≡ ends_there state
+ends_without_event room state = goes_by_next room (without_event NoRest) state
 
 module _ (words : List (List ℕ)) (panel : Panel) (store : Store) (generated : Generated)
     (is : generate_words words panel.input.focus (length panel.queue) panel.moment panel.screen.tree ≡ Ok generated) (now : generated.when ≡ Now) where
@@ -147,7 +147,7 @@ generate_begins room words generated state none is now =
     let there : Panel × List (List ℕ) = chosen generated.event panel in
     began room (codes "event") (codes "generate" ∷ words) state there.0 state.store (event_job there.1 NoRest) none (generates words panel state.store generated is now) (chosen_moment generated.event panel)
     ∙ dispatches room generated.event NoRest state
-    ∙ bound_same room there.1 (meaning room (alone NoRest)) ends_there (ends_alone room) (shown there.0 state)
+    ∙ bound_same room there.1 (meaning room (without_event NoRest)) ends_there (ends_without_event room) (shown there.0 state)
 
 -- ── a selection ──
 
@@ -177,4 +177,4 @@ select_begins room name command words number window state none plain named selec
     let there : Panel × List (List ℕ) = chosen event came.panel in
     began room name words state there.0 came.store (event_job there.1 NoRest) none (selection name command words number window panel state.store plain named selects is_there) (chosen_moment event came.panel)
     ∙ dispatches room event NoRest (shown_with came.panel came.store state)
-    ∙ bound_same room there.1 (meaning room (alone NoRest)) ends_there (ends_alone room) (shown_with there.0 came.store state)
+    ∙ bound_same room there.1 (meaning room (without_event NoRest)) ends_there (ends_without_event room) (shown_with there.0 came.store state)

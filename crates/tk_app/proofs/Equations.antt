@@ -29,7 +29,7 @@ use Rattle.tk_panel.specs.Next.{next}
 use Rattle.tk_panel.specs.Panel.{Panel}
 use Rattle.tk_panel.specs.Reports.{with_line}
 use Rattle.tk_panel.specs.Settle.{Next, after_layout, at_home, drained, idle_round, is_closed, is_due, on_event, on_round, on_timer as timer_next, or_later, queue_or_round, still_waiting, tasks_round, turn, with_queue}
-use Rattle.tk_panel.specs.Start.{alone}
+use Rattle.tk_panel.specs.Start.{without_event}
 use Rattle.tk_panel.proofs.Choices.{chosen_queue}
 use Rattle.tk_commands.specs.Course.{bound_ended, event_job, with_end}
 use Rattle.tk_commands.proofs.Drained.{LeavesTimers, drained_leaves, drained_out, layout_leaves, then}
@@ -97,22 +97,22 @@ module _ (room : ℕ) where
   -- ── *Dispatch* ──
 
   bound_end : (scripts : List (List ℕ)) (rest : Rest) (others : Continuation) → ((state : State Seen) → meaning room (event_job scripts rest) state ≡ others state)
-      → ((state : State Seen) → meaning room (event_job [] rest) state ≡ meaning room (alone rest) state) → (state : State Seen) (code : Code) (text : List ℕ)
+      → ((state : State Seen) → meaning room (event_job [] rest) state ≡ meaning room (without_event rest) state) → (state : State Seen) (code : Code) (text : List ℕ)
       → (let there : Panel × Job = bound_ended code text scripts rest state.shows.panel in meaning room there.1 (in_panel there.0 state))
-      ≡ after_bound room others (meaning room (alone rest)) state code text
+      ≡ after_bound room others (meaning room (without_event rest)) state code text
   bound_end scripts rest others same none state Normal text = same state
   bound_end scripts rest others same none state Error text = none (shown (with_line Errors text state.shows.panel) state)
   bound_end scripts rest others same none state (Return code) text = same state
   bound_end scripts rest others same none state Break text = none state
   bound_end scripts rest others same none state Continue text = same state
 
-  none_bound : (rest : Rest) (state : State Seen) → meaning room (event_job [] rest) state ≡ meaning room (alone rest) state
-  none_bound rest state = goes (event_job [] rest) state ∙ sym (goes (alone rest) state)
+  none_bound : (rest : Rest) (state : State Seen) → meaning room (event_job [] rest) state ≡ meaning room (without_event rest) state
+  none_bound rest state = goes (event_job [] rest) state ∙ sym (goes (without_event rest) state)
 
-  bound : (scripts : List (List ℕ)) (rest : Rest) (state : State Seen) → meaning room (event_job scripts rest) state ≡ bound_meaning room scripts (meaning room (alone rest)) state
+  bound : (scripts : List (List ℕ)) (rest : Rest) (state : State Seen) → meaning room (event_job scripts rest) state ≡ bound_meaning room scripts (meaning room (without_event rest)) state
   bound [] rest state = none_bound rest state
   bound (script ∷ scripts) rest state =
-      let behind : Continuation = meaning room (alone rest) in
+      let behind : Continuation = meaning room (without_event rest) in
       let others : Continuation = bound_meaning room scripts behind in
       goes (event_job (script ∷ scripts) rest) state
       ∙ step_same state (starts room (event_job (script ∷ scripts) rest)) (λ begun. and_then (global_meaning room script begun) (λ left code text. after_bound room others behind left (out_of_global code) text))
@@ -138,7 +138,7 @@ module _ (room : ℕ) where
 
   -- the scripts that were chosen, where there are some, are what comes next
   event_comes : (panel : Panel) (script : List ℕ) (scripts : List (List ℕ)) (rest : Rest) (state : State Seen)
-      → comes state (panel, Some (record { event = Some (script ∷ scripts); rest = rest })) ≡ bound_meaning room (script ∷ scripts) (meaning room (alone rest)) (shown panel state)
+      → comes state (panel, Some (record { event = Some (script ∷ scripts); rest = rest })) ≡ bound_meaning room (script ∷ scripts) (meaning room (without_event rest)) (shown panel state)
   event_comes panel script scripts rest state = sym (goes (event_job (script ∷ scripts) rest) (shown panel state)) ∙ bound (script ∷ scripts) rest (shown panel state)
 
   -- ── *Destroy* ──
@@ -169,8 +169,8 @@ module _ (room : ℕ) where
       by [] after rest = rest (shown (removed number after) state)
       by (script ∷ scripts) after rest =
           event_comes after script scripts (DestroysRest (Some number) numbers paths) state
-          ∙ bound_same (script ∷ scripts) (meaning room (alone (DestroysRest (Some number) numbers paths))) gone
-          (λ left. goes (alone (DestroysRest (Some number) numbers paths)) left ∙ rest (shown (removed number left.shows.panel) left)) (shown after state)
+          ∙ bound_same (script ∷ scripts) (meaning room (without_event (DestroysRest (Some number) numbers paths))) gone
+          (λ left. goes (without_event (DestroysRest (Some number) numbers paths)) left ∙ rest (shown (removed number left.shows.panel) left)) (shown after state)
 
   destroyed : (paths : List (List ℕ)) → Later paths
   unfolding destroys
@@ -180,12 +180,12 @@ module _ (room : ℕ) where
 
   -- ── a timer, or an idle script ──
 
-  entry_starts : (id : ℕ) (script : List ℕ) (rest : Rest) (behind : Continuation) → ((state : State Seen) → meaning room (alone rest) state ≡ behind state) → (state : State Seen)
-      → and_then (global_meaning room script (in_panel (entry_taken id state.shows.panel) state)) (goes_on room (alone rest)) ≡ entry_meaning room id script behind state
+  entry_starts : (id : ℕ) (script : List ℕ) (rest : Rest) (behind : Continuation) → ((state : State Seen) → meaning room (without_event rest) state ≡ behind state) → (state : State Seen)
+      → and_then (global_meaning room script (in_panel (entry_taken id state.shows.panel) state)) (goes_on room (without_event rest)) ≡ entry_meaning room id script behind state
   entry_starts id script rest behind same state =
-      then_same (global_meaning room script (shown (entry_taken id state.shows.panel) state)) (goes_on room (alone rest))
+      then_same (global_meaning room script (shown (entry_taken id state.shows.panel) state)) (goes_on room (without_event rest))
       (λ left code text. behind (shown (with_end (out_of_global code) text left.shows.panel) left))
-      (λ left code text. ap (meaning room (alone rest)) (end_shown (out_of_global code) text left) ∙ same (shown (with_end (out_of_global code) text left.shows.panel) left))
+      (λ left code text. ap (meaning room (without_event rest)) (end_shown (out_of_global code) text left) ∙ same (shown (with_end (out_of_global code) text left.shows.panel) left))
 
   -- ── a round ──
 
@@ -203,29 +203,29 @@ module _ (room : ℕ) where
 
   module _ (home : Home) where
     abbrev again : Continuation
-    again = meaning room (alone (Rounds [] home))
+    again = meaning room (without_event (Rounds [] home))
 
-    round : (ids : List ℕ) (state : State Seen) → meaning room (alone (Rounds ids home)) state ≡ round_meaning room ids again state
+    round : (ids : List ℕ) (state : State Seen) → meaning room (without_event (Rounds ids home)) state ≡ round_meaning room ids again state
     unfolding still_waiting
     round [] state = refl
     round (id ∷ ids) state = by (entry_with id state.shows.panel.timers.entries) refl (round ids)
       where
         by : (entry : Option Entry) → entry_with id state.shows.panel.timers.entries ≡ entry
-            → ((state : State Seen) → meaning room (alone (Rounds ids home)) state ≡ round_meaning room ids again state)
-            → meaning room (alone (Rounds (id ∷ ids) home)) state ≡ idle_meaning room id entry (round_meaning room ids again) state
-        by None is others = goes (alone (Rounds (id ∷ ids) home)) state ∙ rw is refl ∙ sym (goes (alone (Rounds ids home)) state) ∙ others state
+            → ((state : State Seen) → meaning room (without_event (Rounds ids home)) state ≡ round_meaning room ids again state)
+            → meaning room (without_event (Rounds (id ∷ ids) home)) state ≡ idle_meaning room id entry (round_meaning room ids again) state
+        by None is others = goes (without_event (Rounds (id ∷ ids) home)) state ∙ rw is refl ∙ sym (goes (without_event (Rounds ids home)) state) ∙ others state
         by (Some entry) is others =
-            goes (alone (Rounds (id ∷ ids) home)) state
+            goes (without_event (Rounds (id ∷ ids) home)) state
             ∙ rw is refl
-            ∙ step_same state (starts room (alone (Rounds (id ∷ ids) home))) (entry_meaning room id entry.script (round_meaning room ids again))
+            ∙ step_same state (starts room (without_event (Rounds (id ∷ ids) home))) (entry_meaning room id entry.script (round_meaning room ids again))
             (λ left. rw is (entry_starts id entry.script (Rounds ids home) (round_meaning room ids again) others (record state { steps = left })))
 
     idle_item : (ids : List ℕ) (state : State Seen) → idle_ids state.shows.panel.timers.entries ≡ ids → comes state (on_round home ids state.shows.panel) ≡ on_idle room ids again state
     unfolding still_waiting
     idle_item [] state is = refl
     idle_item (id ∷ ids) state is =
-        let here : meaning room (alone (Rounds (id ∷ ids) home)) state ≡ comes state (on_round home (id ∷ ids) state.shows.panel) =
-        goes (alone (Rounds (id ∷ ids) home)) state ∙ rw (idle_there id ids state.shows.panel.timers.entries is) refl in
+        let here : meaning room (without_event (Rounds (id ∷ ids) home)) state ≡ comes state (on_round home (id ∷ ids) state.shows.panel) =
+        goes (without_event (Rounds (id ∷ ids) home)) state ∙ rw (idle_there id ids state.shows.panel.timers.entries is) refl in
         sym here ∙ round (id ∷ ids) state
 
     -- with no event that waits, a round is next
@@ -243,7 +243,7 @@ module _ (room : ℕ) where
 
     turned : (state : State Seen) → Open state.shows.panel → again home state ≡ comes state (turn home state.store state.shows.panel)
     unfolding still_waiting
-    turned state held = goes (alone (Rounds [] home)) state ∙ ap (comes state) (takes_turns state.store state.shows.panel held)
+    turned state held = goes (without_event (Rounds [] home)) state ∙ ap (comes state) (takes_turns state.store state.shows.panel held)
 
     first_event : (event : Event) (events : List Event) (state : State Seen) → state.shows.panel.queue ≡ event ∷ events → Open state.shows.panel
         → comes state (turn home state.store state.shows.panel) ≡ dispatch_meaning room event (again home) (shown (with_queue events state.shows.panel) state)
@@ -296,10 +296,10 @@ module _ (room : ℕ) where
         panel = state.shows.panel
 
         by : (due : Bool) → is_due state.shows.panel.moment state.shows.panel.timers.entries ≡ due → (first : Option Entry) → first_due state.shows.panel.moment state.shows.panel.timers.entries ≡ first
-            → comes state (cond due (state.shows.panel, Some (alone (Rounds [] home))) (after_layout home state.store state.shows.panel)) ≡ on_timer room first (again home) state
+            → comes state (cond due (state.shows.panel, Some (without_event (Rounds [] home))) (after_layout home state.store state.shows.panel)) ≡ on_timer room first (again home) state
         by true due None is = absurd (some_due state.shows.panel.moment state.shows.panel.timers.entries due is)
         by true due (Some entry) is =
-            step_same state (starts room (alone (Rounds [] home))) (entry_meaning room entry.id entry.script (again home))
+            step_same state (starts room (without_event (Rounds [] home))) (entry_meaning room entry.id entry.script (again home))
             (λ left. rw is (entry_starts entry.id entry.script (Rounds [] home) (again home) (λ state. refl) (record state { steps = left })))
         by false due None is = layout_item (changes_due state.shows.panel.screen state.store) state refl none due sound held
         by false due (Some entry) is = let wrong : None ≡ Some entry = sym (none_due state.shows.panel.moment state.shows.panel.timers.entries due) ∙ is in absurd (cc)
@@ -325,7 +325,7 @@ module _ (room : ℕ) where
 
   last_layout : (state : State Seen) → again LastLayout state ≡ laid state
   unfolding still_waiting
-  last_layout state = goes (alone (Rounds [] LastLayout)) state
+  last_layout state = goes (without_event (Rounds [] LastLayout)) state
 
   round_same : (ids : List ℕ) (f g : Continuation) → ((state : State Seen) → f state ≡ g state) → (state : State Seen) → round_meaning room ids f state ≡ round_meaning room ids g state
   round_same [] f g same state = same state
@@ -345,7 +345,7 @@ module _ (room : ℕ) where
   unfolding still_waiting
   updated_idle state =
       let first : Panel = laid_out state.store state.shows.panel in
-      goes (alone (Rounds [] IdleTasks)) state ∙ by (idle_ids first.timers.entries) (shown first state) refl
+      goes (without_event (Rounds [] IdleTasks)) state ∙ by (idle_ids first.timers.entries) (shown first state) refl
     where
       by : (ids : List ℕ) (state : State Seen) → idle_ids state.shows.panel.timers.entries ≡ ids → comes state (tasks_round state.store ids state.shows.panel) ≡ round_meaning room ids laid state
       by [] state is = refl
@@ -358,7 +358,7 @@ dispatches room event rest state = (let there : Panel × List (List ℕ) = chose
 
 pub destroys_all : Destroys
 unfolding next_doomed
-destroys_all room paths state = goes room (alone (DestroysRest None [] paths)) state ∙ destroyed room paths state
+destroys_all room paths state = goes room (without_event (DestroysRest None [] paths)) state ∙ destroyed room paths state
 
 pub updates : Updates
 updates room state sound = updated room state sound
@@ -366,7 +366,7 @@ updates room state sound = updated room state sound
 pub updates_idle : UpdatesIdleTasks
 updates_idle room state = updated_idle room state
 
-closed_next : (state : State Seen) → is_closed state.shows.panel ≡ true → next (alone (Rounds [] Settle)) state.store state.shows.panel ≡ (state.shows.panel, None)
+closed_next : (state : State Seen) → is_closed state.shows.panel ≡ true → next (without_event (Rounds [] Settle)) state.store state.shows.panel ≡ (state.shows.panel, None)
 unfolding still_waiting
 closed_next state closed = rw closed refl
 
@@ -375,5 +375,5 @@ unfolding settle_meaning
 settles_all state sound = by (is_closed state.shows.panel) refl
   where
     by : (closed : Bool) → is_closed state.shows.panel ≡ closed → again 200 Settle state ≡ cond closed (Ended state Normal []) (item_meaning 200 (again 200 Settle) state)
-    by true closed = goes 200 (alone (Rounds [] Settle)) state ∙ ap (comes 200 state) (closed_next state closed)
+    by true closed = goes 200 (without_event (Rounds [] Settle)) state ∙ ap (comes 200 state) (closed_next state closed)
     by false held = item 200 Settle (λ panel. is_closed panel ≡ false) (λ store panel held. rw held refl) (λ old new same held. same ∙ held) state sound held

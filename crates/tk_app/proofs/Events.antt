@@ -1,7 +1,7 @@
 -- What an event makes of a part.
 use Rattle.std.proofs.Common.{◌≡◌, ◌≢◌, refl, sym, ap, ◌∙◌}
 use Rattle.tk_base.specs.declared.local_event.LocalEvent.{LocalEvent}
-use Rattle.tk_panel.specs.Deliver.{delivered as delivered_panel}
+use Rattle.tk_panel.specs.Deliver.{delivered_panel}
 use Rattle.tk_panel.specs.Panel.{Panel}
 use Rattle.tk_app.specs.declared.state.AppState.{AppState}
 use Rattle.tk_app.specs.declared.state.AppState.TheVariants.{Running, Exhausted, Closed}

@@ -12,7 +12,7 @@ use Rattle.tcl_interp.proofs.Ends.{ends_looked}
 use Rattle.tk_after.specs.Timers.{idle_ids}
 use Rattle.tk_screen.specs.Layout.{changes_due}
 use Rattle.tk_screen.specs.Own.{Own as Screen}
-use Rattle.tk_app.proofs.Twice.{laid_sound}
+use Rattle.tk_app.proofs.Left.{laid_sound}
 use Rattle.tk_tree.specs.Own.{IsSound}
 use Rattle.tk_panel.specs.declared.job.Home.TheVariants.{Settle, Update, IdleTasks, LastLayout}
 use Rattle.tk_panel.specs.declared.job.Job.{Job}

@@ -1,7 +1,6 @@
 -- What the proofs share. `Parts`, `Settled` and `Slices` also serve who lets applications pass from moment to moment.
 mod Adding
 mod Alone
-mod Apart
 mod Beginnings
 mod Begun
 pub mod BySettle
@@ -12,6 +11,7 @@ mod Gone
 mod Grows
 mod Homes
 mod LaidOut
+mod Left
 mod Only
 mod Panels
 pub mod Parts
@@ -30,6 +30,5 @@ mod Sound
 pub mod SoundParts
 pub mod Stages
 mod Trees
-mod Twice
 pub mod Views
 pub mod Waits

@@ -35,7 +35,7 @@ use Rattle.tk_app.proofs.Equations.{idle_there, settles_all, updates}
 use Rattle.tk_app.proofs.Panels.{chosen_screen, laid_screen}
 use Rattle.tk_app.proofs.Sound.{StaysSound, keeps_sound, sound_acts}
 use Rattle.tk_app.proofs.Trees.{end_screen, laid}
-use Rattle.tk_app.proofs.Twice.{laid_twice}
+use Rattle.tk_screen.proofs.Twice.{laid_twice}
 
 -- the same where windows are sound and at most so many steps are left
 abbrev Agree : ℕ → Continuation → Continuation → Type 0

@@ -1,11 +1,13 @@
 -- The parts, after a change to what is of one of them.
 use Rattle.std.proofs.Common.{◌≡◌, ◌≢◌, ℕ, zero, suc, ◌+◌, ◌<◌, ◌≤◌, List, [], ◌∷◌, ◌++◌, length, get_or, set, refl, sym, ap, ◌∙◌, arith}
-use Rattle.std.specs.Prelude.{Any, Some, option_map, slice_get}
-use Rattle.std.proofs.lemmas.Option.{slice_get_read}
+use Rattle.std.specs.Prelude.{Any, None, Option, Some, option_and_then, option_map, slice_get}
+use Rattle.std.proofs.lemmas.Option.{slice_get_past, slice_get_read}
 use Rattle.tk_panel.specs.declared.tables.Tables.{Tables}
 use Rattle.tk_panel.specs.Panel.{panel_of}
+use Rattle.tk_app.specs.Application.{Application}
+use Rattle.tk_app.specs.Inspection.{seen_in}
 use Rattle.tk_app.specs.Part.{Part}
-use Rattle.tk_app.specs.Turns.{Program, part_of, parts_from}
+use Rattle.tk_app.specs.Turns.{Program, application_of, part_of, parts_from}
 
 pub length-parts_from : {M : Type 0} (n : ℕ) (tables : Tables) (ps : List (Program M)) → length (parts_from n tables ps) ≡ length ps
 unfolding parts_from
@@ -65,6 +67,18 @@ in_range tables ps parts i is lt = omega (arith, lt, length-parts_from 0 tables 
 pub of_slot : {M : Type 0} {T : Type 0} (f : Part M → T) (tables : Tables) (ps : List (Program M)) (parts : List (Part M)) (i : ℕ) (p : Program M) (x : T) → parts_from 0 tables ps ≡ parts → i < length parts → p ≡ get_or ps i p
     → x ≡ f (part_of (panel_of i tables) p) → option_map f (slice_get parts i) ≡ Some x
 of_slot f tables ps parts i p x is lt at told = ap (option_map f) (get_parts tables ps parts i p is (in_range tables ps parts i is lt) at) ∙ ap Some (sym told)
+
+-- ── what is looked at ──
+
+module _ {M T : Type 0} (look : Application M → Option T) (tables : Tables) (ps items : List (Program M)) (parts : List (Part M)) (i : ℕ) (is : parts_from 0 tables ps ≡ parts) (same : items ≡ ps) where
+  pub seen_there : (p : Program M) → i < length items → p ≡ get_or items i p → look (application_of (panel_of i tables) p) ≡ seen_in look i parts
+  seen_there p lt at =
+      sym (ap (option_and_then (λ (part : Part M). look part.application)) (get_parts tables ps parts i p is (omega (arith, lt, ap length same)) (at ∙ ap (λ xs. get_or xs i p) same)))
+
+  -- no application is in the slot
+  pub seen_nowhere : length items ≤ i → None ≡ seen_in look i parts
+  seen_nowhere le =
+      sym (ap (option_and_then (λ (part : Part M). look part.application)) (slice_get_past parts i (omega (arith, le, ap length same, length-parts_from 0 tables ps, ap (λ qs. length qs) is))))
 
 -- ── names ──
 

@@ -6,10 +6,10 @@ use Rattle.tcl_interp.specs.Scripts.{out_of_global}
 use Rattle.tk_base.specs.declared.local_event.LocalEvent.{LocalEvent}
 use Rattle.tk_base.specs.declared.local_event.LocalKind.{LocalKind}
 use Rattle.tk_base.specs.declared.local_event.LocalKind.TheVariants as kinds
-use Rattle.tk_inputs.specs.Deliver.{delivered as arrived}
+use Rattle.tk_inputs.specs.Deliver.{arrived}
 use Rattle.tk_screen.specs.Own.{Own as Screen}
 use Rattle.tk_tree.specs.Own.{IsSound}
-use Rattle.tk_panel.specs.Deliver.{arrivals_in, delivered as delivered_panel, with_arrivals, with_rectangle}
+use Rattle.tk_panel.specs.Deliver.{arrivals_in, delivered_panel, with_arrivals, with_rectangle}
 use Rattle.tk_panel.specs.Fresh.{fresh as fresh_panel}
 use Rattle.tk_panel.specs.Panel.{Panel}
 use Rattle.tk_commands.specs.Course.{with_end}

@@ -5,7 +5,7 @@ use Rattle.tcl_control.specs.declared.code.Code.TheVariants.{Normal}
 use Rattle.tcl_interp.specs.Evaluation.{Ended}
 use Rattle.tk_tree.specs.declared.window.Window.{Window}
 use Rattle.tk_tree.specs.Own.{window_at}
-use Rattle.tk_panel.specs.Destroy.{destroy_event, doomed_by, marked, removed}
+use Rattle.tk_panel.specs.Removal.{destroy_event, doomed_by, marked, removed}
 use Rattle.tk_app.specs.Dispatch.{Continuation, dispatch_meaning, shown}
 
 -- with room for so many scripts one in another

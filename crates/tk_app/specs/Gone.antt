@@ -1,7 +1,7 @@
 -- Meaning. What *Destroy* leaves: none of the windows that its path means. So each had no children left when it was its turn to go.
 use Rattle.std.specs.Prelude.{◌≡◌, ℕ, List, [], ◌∷◌, None}
 use Rattle.tcl_interp.specs.Evaluation.{State, Outcome, Ended, OutOfSteps}
-use Rattle.tk_panel.specs.Destroy.{doomed_by}
+use Rattle.tk_panel.specs.Removal.{doomed_by}
 use Rattle.tk_tree.specs.Own.{Own as Tree, window_at}
 use Rattle.tk_app.specs.Destroy.{destroy_meaning}
 use Rattle.tk_app.specs.Seen.{Seen}

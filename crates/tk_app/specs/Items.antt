@@ -10,9 +10,8 @@ use Rattle.tk_packer.specs.declared.changes.PlaceChange.{PlaceChange}
 use Rattle.tk_sequences.specs.declared.event.Event.{Event}
 use Rattle.tk_screen.specs.Layout.{changes_due}
 use Rattle.tk_panel.specs.Changes.{laid_out}
-use Rattle.tk_panel.specs.Panel.{Panel}
-use Rattle.tk_panel.specs.Settle.{is_closed, with_queue}
-use Rattle.tk_commands.specs.Course.{with_end}
+use Rattle.tk_panel.specs.Panel.{Panel, is_closed, with_queue}
+use Rattle.tk_commands.specs.Ends.{with_end}
 use Rattle.tk_app.specs.Dispatch.{Continuation, global_meaning, dispatch_meaning, shown}
 
 -- a timer or an idle script leaves its table

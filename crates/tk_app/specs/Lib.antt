@@ -5,6 +5,7 @@ pub mod Destroy
 pub mod Dispatch
 pub mod Dues
 pub mod Gone
+pub mod Inspection
 pub mod Items
 pub mod Jobs
 pub mod Moments

@@ -2,9 +2,8 @@
 use Rattle.std.specs.Prelude.{ℕ, ◌+◌, min, List, [], ◌∷◌, if◌then◌else◌}
 use Rattle.tcl_interp.specs.Evaluation.{State, Outcome, Ended, OutOfSteps}
 use Rattle.tk_base.specs.declared.local_event.LocalEvent.{LocalEvent}
-use Rattle.tk_panel.specs.Deliver.{delivered as delivered_panel}
-use Rattle.tk_panel.specs.Panel.{Panel}
-use Rattle.tk_panel.specs.Settle.{is_closed}
+use Rattle.tk_panel.specs.Deliver.{delivered_panel}
+use Rattle.tk_panel.specs.Panel.{Panel, is_closed}
 use Rattle.tk_base.specs.declared.budget.Budget.{Budget}
 use Rattle.tk_app.specs.declared.state.AppState.{AppState}
 use Rattle.tk_app.specs.declared.state.AppState.TheVariants.{Running, Exhausted, Closed}

@@ -12,7 +12,7 @@ use Rattle.tk_alias.specs.Replies.{Answer}
 use Rattle.tk_panel.specs.declared.job.Job.{Job}
 use Rattle.tk_panel.specs.Panel.{Panel}
 use Rattle.tk_commands.specs.Calls.{calls as panel_calls}
-use Rattle.tk_commands.specs.Course.{ended as panel_ended, look as panel_look, started as panel_started}
+use Rattle.tk_commands.specs.Course.{ended as panel_ended, job_started as panel_started, look as panel_look}
 use Rattle.tk_app.specs.Seen.{Meaning, Seen, served_by, with_panel}
 
 -- ── jobs ──
@@ -21,7 +21,7 @@ use Rattle.tk_app.specs.Seen.{Meaning, Seen, served_by, with_panel}
 abbrev pub of_panel : {T : Type 0} → Seen → Panel × T → Seen × T
 of_panel seen there = (with_panel there.0 seen, there.1)
 
--- the course of jobs is that of panels
+-- steps: the course of jobs is that of panels
 abbrev pub course : Course Seen Job
 course = record {
   look = λ seen store job. of_panel seen (panel_look seen.panel store job);
@@ -56,5 +56,7 @@ called_as None words seen store = by_panel seen (panel_calls seen.panel store wo
 abbrev pub calls : Seen → Store → List (List ℕ) → Does
 calls seen store words = called_as (alias_act seen.serves words) words seen store
 
+-- All that scripts call, with the tasks by which jobs go on. The commands that begin a job answer its task, whose way leads through files of steps; what
+-- each of them comes to, `Begun` says as an equation, so read on there.
 abbrev pub outside : Outside Seen (Task Job)
 outside = outside_of course calls

@@ -13,10 +13,10 @@ use Rattle.tk_panel.specs.declared.job.Job.{Job}
 use Rattle.tk_panel.specs.declared.job.Rest.{Rest}
 use Rattle.tk_panel.specs.Changes.{laid_out}
 use Rattle.tk_panel.specs.Choice.{chosen}
-use Rattle.tk_panel.specs.Panel.{Panel}
-use Rattle.tk_panel.specs.Settle.{is_closed}
-use Rattle.tk_panel.specs.Start.{alone}
-use Rattle.tk_commands.specs.Course.{event_job, with_end}
+use Rattle.tk_panel.specs.Panel.{Panel, is_closed}
+use Rattle.tk_panel.specs.Start.{without_event}
+use Rattle.tk_commands.specs.Course.{event_job}
+use Rattle.tk_commands.specs.Ends.{with_end}
 use Rattle.tk_commands.specs.Moment.{destroying, settling as settling_to}
 use Rattle.tk_app.specs.Destroy.{destroy_meaning}
 use Rattle.tk_app.specs.Dispatch.{Continuation, global_meaning, dispatch_meaning, in_panel, shown}
@@ -89,7 +89,7 @@ UpdatesIdleTasks = (room : ℕ) (state : State Seen)
 abbrev pub Dispatches : Type 0
 Dispatches = (room : ℕ) (event : Event) (rest : Rest) (state : State Seen)
     → (let there : Panel × List (List ℕ) = chosen event state.shows.panel in meaning room (event_job there.1 rest) (shown there.0 state))
-    ≡ dispatch_meaning room event (meaning room (alone rest)) state
+    ≡ dispatch_meaning room event (meaning room (without_event rest)) state
 
 -- The job that `destroy` begins with these paths is *Destroy* of them.
 abbrev pub Destroys : Type 0

@@ -1,4 +1,5 @@
--- Steps. All applications side by side, and what a turn of one of them makes of all.
+-- Meaning, for who runs applications turn by turn (`Shared`, `AppView`): all applications side by side, and what a turn of one of them makes of all. What
+-- becomes of an application by itself needs none of it, and stands in `Moments`.
 use Rattle.std.specs.Prelude.{◌≡◌, ◌≢◌, ◌⊎◌, ℕ, ◌+◌, ◌-◌, ◌≤◌, ◌<◌, Bool, List, [], ◌∷◌, ◌++◌, Some, min, slice_get, slice_set}
 use Rattle.tcl_vars.specs.Store.{Store}
 use Rattle.tcl_interp.specs.declared.interp.SliceEnd.{SliceEnd}

@@ -3,6 +3,7 @@
 #![tactic(auto)]
 
 mod aliases;
+mod inspection;
 mod jobs;
 mod laws;
 mod layout_laws;

@@ -4,7 +4,6 @@ use Rattle.std.specs.Prelude.{Result, Ok, Err, IfSome, OnErr, OnOk, nat_eq, opti
 use Rattle.std.specs.Option.{option_map_or}
 use Rattle.std.proofs.lemmas.Bool.{eqb-false, eqb-true}
 use Rattle.tk_base.specs.declared.budget.Budget.{Budget}
-use Rattle.tk_app.specs.declared.turns.Turn.{Turn}
 use Rattle.tk_app.specs.Part.{Part, settling_begun}
 use Rattle.tk_app.specs.Rounds.{entry}
 use Rattle.tk_app.specs.Shares.{taken_by}

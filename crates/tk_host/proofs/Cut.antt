@@ -1,5 +1,5 @@
 -- Turns that want of memory cut short.
-use Rattle.std.proofs.Common.{◌≡◌, ℕ, ◌+◌, ◌-◌, ◌*◌, ◌≤◌, ◌<◌, ◌++◌, min, Bool, List, [], length, get_or, map, drop, Option, Some, refl, sym, ap, ◌∙◌, subst, append-nil, append_assoc, arith}
+use Rattle.std.proofs.Common.{◌≡◌, ℕ, ◌+◌, ◌-◌, ◌*◌, ◌≤◌, ◌<◌, ◌++◌, min, Bool, List, [], length, get_or, map, drop, Some, refl, sym, ap, ◌∙◌, subst, append-nil, append_assoc, arith}
 use Rattle.std.proofs.lemmas.List.{drop_more, length-map}
 use Rattle.std.specs.Prelude.{Result, Ok, Err, IfErr, OnErr, OnOk}
 use Rattle.tk_base.specs.declared.rect.Rect.{Rect}
@@ -20,7 +20,7 @@ use Rattle.tk_app.specs.Turns.{Applications, BeginsIn, ChangesOnly}
 use Rattle.tk_app.proofs.Rounds.{turns_step}
 use Rattle.tk_host.specs.declared.phase.Phase.{Phase}
 use Rattle.tk_host.specs.Alone.{passed}
-use Rattle.tk_host.specs.Cut.{CutBy, CutByLine, IsCutShort, TellsAll, TellsAtLeast}
+use Rattle.tk_host.specs.Cut.{CutBy, CutByLine, CutShortBy, IsCutShort, TellsAll, TellsAtLeast}
 use Rattle.tk_host.specs.Held.{Call, Held, Hosted, after_line, after_start, gone_to, held_after}
 use Rattle.tk_host.specs.Slots.{begun_at}
 use Rattle.tk_host.specs.Turns.{applications, stages_of, steps_left, turns_at_start, turns_given, turns_on_the_way}
@@ -193,9 +193,20 @@ cut_by_line (Ok x) whole old new cut least = tt
 cut_by_line (Err NoMemory) whole old new cut least = (cut, least)
 cut_by_line (Err (Refused found)) whole old new cut least = tt
 
+pub cut_short_by : {T : Type 0} (r : Result T HostFault) (slice : ℕ) (whole told : List Turn) → IsCutShort slice whole told → IfErr r (λ fault. CutShortBy fault slice whole told)
+cut_short_by (Ok x) slice whole told cut = tt
+cut_short_by (Err NoMemory) slice whole told cut = cut
+cut_short_by (Err (Refused found)) slice whole told cut = tt
+
+-- by the same turns
+pub cut_same : {T M : Type 0} (r : Result T HostFault) (whole other : List Turn) (old new : Hosted M) → whole ≡ other → IfErr r (λ fault. CutBy fault whole old new)
+    → IfErr r (λ fault. CutBy fault other old new)
+cut_same r whole other old new same cut = subst (λ ts. IfErr r (λ fault. CutBy fault ts old new)) same cut
+
 -- and that by the calls that it came after
 pub cut_of_going : {T M : Type 0} (answer : M → Meaning) (calls : List (Call M)) (r : Result T HostFault) (to : Phase) (moment : ℕ) (old new : Hosted M) → old.held ≡ held_after answer calls
     → IfErr r (λ fault. CutBy fault (gone_to answer to moment old).turns old new)
     → IfErr r (λ fault. CutBy fault (turns_on_the_way answer old.slice moment (applications (held_after answer calls).parts)) old new)
 cut_of_going {T} {M} answer calls r to moment old new held cut =
-    subst (λ ts. IfErr r (λ fault. CutBy fault ts old new)) (ap (λ (h : Held M). turns_on_the_way answer old.slice moment (applications h.parts)) held) cut
+    cut_same r (gone_to answer to moment old).turns (turns_on_the_way answer old.slice moment (applications (held_after answer calls).parts)) old new
+    (ap (λ (h : Held M). turns_on_the_way answer old.slice moment (applications h.parts)) held) cut

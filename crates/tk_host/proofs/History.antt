@@ -24,7 +24,7 @@ use Rattle.tk_host.specs.declared.phase.Phase.{Phase}
 use Rattle.tk_host.specs.declared.phase.Phase.TheVariants.{Adding, Reached, Finished, Lost}
 use Rattle.tk_host.specs.Spec.{Given, rect_of}
 use Rattle.tk_host.specs.Alone.{after_events, alone, passed}
-use Rattle.tk_host.specs.Held.{Held, Hosted, Call, AddApp, Start, LineAt, AdvanceTo, End, after_line, at_rest, brought, with_app, after_start, gone_to, given_by, first_rects, phase_after, lines_after, lines_of, application_in, part_in, parts_in, reached, held_in, held_after, turns_after}
+use Rattle.tk_host.specs.Held.{Held, Hosted, Call, AddApp, Start, LineAt, AdvanceTo, End, after_line, at_rest, with_passed, with_app, after_start, gone_to, given_by, first_rects, phase_after, lines_after, lines_of, application_in, part_in, parts_in, reached, held_in, held_after, turns_after}
 use Rattle.tk_host.specs.Refusals.{PhaseRefuses}
 use Rattle.tk_host.specs.Sections.{EachByItself, sections_after}
 use Rattle.tk_host.specs.Turns.{after_each, after_given, applications, stages_of, steps_at_start, turns_at_start, turns_given, turns_on_the_way}
@@ -106,8 +106,8 @@ module _ {M : Type 0} (answer : M → Meaning) where
       begins_with_script answer 0 app.spec
       ∙ ap (λ (a : Application M). record { application = a; work = Rests }) (sym (passed_past answer 0 there (started_is_past answer 0 app.spec.script (fresh app.spec))))
 
-  -- and one that is brought from a moment to a later one as it is there
-  brought_alone : (before moment : ℕ) → before ≤ moment → (routed : List LocalEvent) (app : Given M) → brought answer moment (part_in answer (Reached before) routed app) ≡ part_in answer (Reached moment) routed app
+  -- and one that has passed from a moment to a later one as it is there
+  brought_alone : (before moment : ℕ) → before ≤ moment → (routed : List LocalEvent) (app : Given M) → with_passed answer moment (part_in answer (Reached before) routed app) ≡ part_in answer (Reached moment) routed app
   brought_alone before moment le routed app =
       ap (λ (a : Application M). record { application = a; work = Rests }) (passed_passed answer before moment (after_events answer app.spec routed) le)
 
@@ -139,10 +139,10 @@ module _ {M : Type 0} (answer : M → Meaning) where
       ∙ ap (λ ps. part_in answer (Reached 0) [] app ∷ ps) (started_parts first lines (slot + 1) apps)
 
   brought_parts : (before moment : ℕ) → before ≤ moment → (first : List Rect) (lines : List Line) (slot : ℕ) (apps : List (Given M))
-      → map (brought answer moment) (parts_in answer (Reached before) first lines slot apps) ≡ parts_in answer (Reached moment) first lines slot apps
+      → map (with_passed answer moment) (parts_in answer (Reached before) first lines slot apps) ≡ parts_in answer (Reached moment) first lines slot apps
   brought_parts before moment le first lines slot [] = refl
   brought_parts before moment le first lines slot (app ∷ apps) =
-      ap (λ p. p ∷ map (brought answer moment) (parts_in answer (Reached before) first lines (slot + 1) apps)) (brought_alone before moment le (routed first lines slot) app)
+      ap (λ p. p ∷ map (with_passed answer moment) (parts_in answer (Reached before) first lines (slot + 1) apps)) (brought_alone before moment le (routed first lines slot) app)
       ∙ ap (λ ps. part_in answer (Reached moment) (routed first lines slot) app ∷ ps) (brought_parts before moment le first lines (slot + 1) apps)
 
   finished_parts : (moment : ℕ) (first : List Rect) (lines : List Line) (slot : ℕ) (apps : List (Given M)) → parts_in answer (Reached moment) first lines slot apps ≡ parts_in answer (Finished moment) first lines slot apps
@@ -218,7 +218,7 @@ module _ {M : Type 0} (answer : M → Meaning) where
       let apps : List (Given M) = given_by calls in
       let first : List Rect = map rect_of apps in
       ap (λ (h : Hosted M). h.held) now
-      ∙ ap (λ (h : Held M). record { phase = Reached moment; known = h.known; parts = map (brought answer moment) h.parts }) (was_in calls old.held (Reached before) held from)
+      ∙ ap (λ (h : Held M). record { phase = Reached moment; known = h.known; parts = map (with_passed answer moment) h.parts }) (was_in calls old.held (Reached before) held from)
       ∙ ap (λ ps. record { phase = Reached moment; known = values first (lines_of calls); parts = ps }) (brought_parts before moment le first (lines_of calls) 0 apps)
       ∙ leads_on calls (AdvanceTo moment) (Reached moment) (lines_of calls) refl refl refl
 
@@ -228,7 +228,7 @@ module _ {M : Type 0} (answer : M → Meaning) where
       let apps : List (Given M) = given_by calls in
       let first : List Rect = map rect_of apps in
       ap (λ (h : Hosted M). h.held) now
-      ∙ ap (λ (h : Held M). record { phase = Finished moment; known = h.known; parts = map (brought answer moment) h.parts }) (was_in calls old.held (Reached before) held from)
+      ∙ ap (λ (h : Held M). record { phase = Finished moment; known = h.known; parts = map (with_passed answer moment) h.parts }) (was_in calls old.held (Reached before) held from)
       ∙ ap (λ ps. record { phase = Finished moment; known = values first (lines_of calls); parts = ps })
       (brought_parts before moment le first (lines_of calls) 0 apps ∙ finished_parts moment first (lines_of calls) 0 apps)
       ∙ leads_on calls (End moment) (Finished moment) (lines_of calls) refl refl refl

@@ -19,7 +19,7 @@ use Rattle.tk_app.specs.Turns.{Applications}
 use Rattle.tk_host.specs.declared.phase.Phase.{Phase}
 use Rattle.tk_host.specs.declared.phase.Phase.TheVariants.{Adding, Reached, Finished, Lost}
 use Rattle.tk_host.specs.Alone.{passed}
-use Rattle.tk_host.specs.Held.{Hosted, after_line, after_start, at_rest, brought, gone_to, known_by, with_app}
+use Rattle.tk_host.specs.Held.{Hosted, after_line, after_start, at_rest, with_passed, gone_to, known_by, with_app}
 use Rattle.tk_host.specs.Spec.{Given, rect_of}
 use Rattle.tk_host.specs.Ready.{AllRest, IsAt, IsReady, IsRouted}
 use Rattle.tk_host.specs.Slots.{AreAt}
@@ -192,13 +192,13 @@ module _ {M : Type 0} (answer : M → Meaning) where
       → after.turns ≡ cleared.turns ++ turns_on_the_way answer slice moment (applications cleared.parts)
       → seen to rects known slice after ≡ gone_to answer to moment old
   gone_is phase to before moment rects known slice shared cleared after old from at is rest clear done rests told =
-      let parts : after.parts ≡ map (brought answer moment) shared.parts =
+      let parts : after.parts ≡ map (with_passed answer moment) shared.parts =
       all_rest answer after.parts rests ∙ ap (map at_rest) (done ∙ ap (λ (h : Applications M). map (passed answer moment) (applications h.parts)) clear) ∙ brought_all answer moment shared.parts rest in
       let turns : after.turns ≡ turns_on_the_way answer slice moment (applications shared.parts) = told ∙ ap (λ (h : Applications M). h.turns ++ turns_on_the_way answer slice moment (applications h.parts)) clear in
       let knows : known_by to rects known ≡ known_by phase rects known = known_on to moment rects known at ∙ sym (known_reached phase before rects known from) in
       ap (λ ps. record { held = record { phase = to; known = known_by to rects known; parts = ps }; slice = slice; turns = after.turns }) parts
-      ∙ ap (λ ts. record { held = record { phase = to; known = known_by to rects known; parts = map (brought answer moment) shared.parts }; slice = slice; turns = ts }) turns
-      ∙ ap (λ k. record { held = record { phase = to; known = k; parts = map (brought answer moment) shared.parts }; slice = slice; turns = turns_on_the_way answer slice moment (applications shared.parts) }) knows
+      ∙ ap (λ ts. record { held = record { phase = to; known = known_by to rects known; parts = map (with_passed answer moment) shared.parts }; slice = slice; turns = ts }) turns
+      ∙ ap (λ k. record { held = record { phase = to; known = k; parts = map (with_passed answer moment) shared.parts }; slice = slice; turns = turns_on_the_way answer slice moment (applications shared.parts) }) knows
       ∙ ap (gone_to answer to moment) is
 
   pub lined_is : (phase : Phase) (before : ℕ) (line : Line) (first : List Rect) (earlier : List Line) (rects : List Rect) (known known' : Values) (slice : ℕ) (given : List Delivery)

@@ -4,13 +4,15 @@ pub mod BySettle
 mod Counts
 mod Cut
 mod Deliveries
-mod FirstFormat
+pub mod FirstFormat
 mod Fits
 mod History
 mod Kept
+mod Looks
 mod Order
 mod Parts
 mod Passing
+mod Relation
 mod Routing
 mod Settling
 mod Slots

@@ -1,5 +1,5 @@
 -- Which fault of a call is the first.
-use Rattle.std.proofs.Common.{◌≡◌, ℕ, ◌≤◌, ◌<◌, IsTrue, arith, List, [], ◌∷◌, Result, Ok, Err, MatchResult, refl, sym, ap, ◌∙◌, subst, inl, inr}
+use Rattle.std.proofs.Common.{◌≡◌, ℕ, ◌≤◌, IsTrue, arith, List, [], ◌∷◌, Result, Ok, Err, MatchResult, sym, ap, ◌∙◌, subst, inl, inr}
 use Rattle.tk_base.specs.declared.rect.Rect.{Rect}
 use Rattle.tk_route.specs.Refusals.{Covers, IsFirst, NamesNobody, NoneApplies, Refuses, line_faults as faults_of_lines}
 use Rattle.tk_route.specs.Values.{Values}

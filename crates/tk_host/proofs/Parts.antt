@@ -9,7 +9,7 @@ use Rattle.tk_app.specs.Part.{Part, Work, Rests, added, done_as, needs, settling
 use Rattle.tk_app.specs.Spec.{Spec}
 use Rattle.tk_app.proofs.Parts.{settles_from_rest, begins_with_script}
 use Rattle.tk_host.specs.Alone.{passed}
-use Rattle.tk_host.specs.Held.{at_rest, brought}
+use Rattle.tk_host.specs.Held.{at_rest, with_passed}
 use Rattle.tk_host.specs.Ready.{AllAdded, AllRest}
 use Rattle.tk_host.specs.Slots.{begun_by, begun_at}
 use Rattle.tk_host.specs.Turns.{applications, steps_left}
@@ -85,11 +85,11 @@ module _ {M : Type 0} (answer : M → Meaning) where
       ap (λ n. n ∷ map (needs answer moment) (map (begun_at moment) ps)) (needs_of moment p rest.0)
       ∙ ap (λ ns. used_at next_due (settled answer) steps_left moment p.application ∷ ns) (needs_all moment ps rest.1)
 
-  pub brought_all : (moment : ℕ) (parts : List (Part M)) → AllRest parts → map at_rest (map (passed answer moment) (applications parts)) ≡ map (brought answer moment) parts
+  pub brought_all : (moment : ℕ) (parts : List (Part M)) → AllRest parts → map at_rest (map (passed answer moment) (applications parts)) ≡ map (with_passed answer moment) parts
   brought_all moment [] rest = refl
   brought_all moment (p ∷ ps) rest =
       ap (λ (work : Work). record { application = passed answer moment p.application; work = work } ∷ map at_rest (map (passed answer moment) (applications ps))) (sym rest.0)
-      ∙ ap (λ qs. brought answer moment p ∷ qs) (brought_all moment ps rest.1)
+      ∙ ap (λ qs. with_passed answer moment p ∷ qs) (brought_all moment ps rest.1)
 
   -- ── the start ──
 

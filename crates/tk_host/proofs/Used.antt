@@ -1,5 +1,5 @@
 -- The steps that an application takes, and those that are left.
-use Rattle.std.proofs.Common.{◌≡◌, ℕ, zero, suc, ◌+◌, ◌-◌, ◌*◌, ◌≤◌, min, Bool, true, false, Option, Some, None, List, [], ◌∷◌, length, refl, sym, ap, ◌∙◌, subst, arith}
+use Rattle.std.proofs.Common.{◌≡◌, ℕ, zero, suc, ◌+◌, ◌*◌, ◌≤◌, Bool, true, false, Option, Some, None, List, [], ◌∷◌, length, refl, ap, ◌∙◌, subst, arith}
 use Rattle.std.specs.Prelude.{if◌then◌else◌, nat_eq, sum_by}
 use Rattle.std.specs.List.{enumerate_from}
 use Rattle.std.proofs.Math.Nat.{suc-mul}
@@ -10,7 +10,7 @@ use Rattle.tk_app.specs.declared.state.AppState.{AppState}
 use Rattle.tk_app.specs.declared.state.AppState.TheVariants.{Running, Exhausted, Closed}
 use Rattle.tk_app.specs.Application.{Application, fresh, next_due}
 use Rattle.tk_app.specs.Moments.{after_outcome, delivered, delivered_as, settled, settled_as, settled_by, started, started_by}
-use Rattle.tk_app.specs.Part.{Part, Rests, added, settling_begun, stage_done}
+use Rattle.tk_app.specs.Part.{Part, Rests, added, settling_begun}
 use Rattle.tk_app.specs.Seen.{Meaning, Seen}
 use Rattle.tk_app.specs.Settle.{settle_meaning}
 use Rattle.tk_app.specs.Spec.{Spec}

@@ -17,7 +17,7 @@ module _ {M : Type 0} (answer : M → Meaning) where
     at_moment_by moment application = settled_at next_due (settled_by answer settle) moment application
 
     -- The moments up to a last one have come, each after the one before it, from 0 on. In one that the application has reached before, nothing is
-    -- due any more.
+    -- due any more. By its due moments alone, the earliest first, the relation *Passes* says it (`Passes`).
     unfoldable pub passed_by : ℕ → Application M → Application M
     passed_by zero application = at_moment_by zero application
     passed_by (suc moment) application = at_moment_by (suc moment) (passed_by moment application)

@@ -22,6 +22,11 @@ pub record IsCutShort (slice : ℕ) (whole told : List Turn) : Type 0 where
   pub told_is : told ≡ front ++ entry slot taken
   pub few : taken ≤ slice
 
+-- The turns of a call in which memory was refused are cut short; one that was refused with a number took none.
+abbrev pub CutShortBy : HostFault → ℕ → List Turn → List Turn → Type 0
+CutShortBy NoMemory slice whole told = IsCutShort slice whole told
+CutShortBy (Refused found) slice whole told = Unit {0}
+
 module _ {M : Type 0} where
   -- how many steps the part in a slot has left
   abbrev pub left_in : ℕ → List (Part M) → ℕ

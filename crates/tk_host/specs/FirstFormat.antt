@@ -1,7 +1,7 @@
 -- Meaning. An application that nothing refills, as each of a session of the first format is: events grant it no step.
 use Rattle.std.specs.Prelude.{◌≡◌, ℕ, List, [], ◌∷◌}
 use Rattle.tk_base.specs.declared.local_event.LocalEvent.{LocalEvent}
-use Rattle.tk_panel.specs.Deliver.{delivered as delivered_panel}
+use Rattle.tk_panel.specs.Deliver.{delivered_panel}
 use Rattle.tk_app.specs.declared.state.AppState.{AppState}
 use Rattle.tk_app.specs.declared.state.AppState.TheVariants.{Running, Exhausted, Closed}
 use Rattle.tk_app.specs.Application.{Application, fresh, panel_at, with_panel}

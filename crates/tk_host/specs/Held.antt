@@ -124,13 +124,13 @@ module _ {M : Type 0} (answer : M → Meaning) where
   }
 
   -- an application that has done what is due of its own up to a moment
-  abbrev pub brought : ℕ → Part M → Part M
-  brought moment part = record part { application = passed answer moment part.application }
+  abbrev pub with_passed : ℕ → Part M → Part M
+  with_passed moment part = record part { application = passed answer moment part.application }
 
   -- A host whose applications have come to a moment, each by itself. They took turns on the way.
   abbrev pub gone_to : Phase → ℕ → Hosted M → Hosted M
   gone_to phase moment host = record host {
-    held = record { phase = phase; known = host.held.known; parts = map (brought moment) host.held.parts };
+    held = record { phase = phase; known = host.held.known; parts = map (with_passed moment) host.held.parts };
     turns = turns_on_the_way answer host.slice moment (applications host.held.parts);
   }
 

@@ -6,6 +6,8 @@ pub mod Cut
 pub mod Dues
 pub mod FirstFormat
 pub mod Held
+pub mod Inspection
+pub mod Passes
 pub mod Ready
 pub mod Refusals
 pub mod Sections

@@ -23,10 +23,10 @@ use tk_route::{HostFault, HostLine, LineFault, MAX_APPLICATIONS, Router, test_li
 pub struct Host<M: AliasService> {
     alloc: Global,
     slice: u64,
-    phase: Phase,
+    pub(crate) phase: Phase,
     rects: Vec<Rect>,
     router: Router,
-    shared: Shared<M>,
+    pub(crate) shared: Shared<M>,
 }
 
 impl<M: AliasService> Model for Host<M> {
@@ -49,7 +49,7 @@ impl<M: AliasService> Host<M> {
     ghost use Rattle.std.specs.Prelude.{◌≡◌, ◌≢◌, ◌≤◌, ℕ, List, [], ◌∷◌, ◌++◌, map, slice_get, Some, IfOk, IfErr, OnOk, OnErr, MatchResult};
     ghost use Rattle.tk_app.specs.Section.{section};
     ghost use Rattle.tk_base.specs.declared.rect.Rect.{Rect};
-    ghost use Rattle.tk_host.specs.Cut.{CutBy, CutByLine, IsCutShort, TellsAtLeast};
+    ghost use Rattle.tk_host.specs.Cut.{CutBy, CutByLine, CutShortBy, IsCutShort, TellsAtLeast};
     ghost use Rattle.tk_route.specs.Lines.{Line, at, values};
     ghost use Rattle.tk_host.specs.Held.{AddApp, AdvanceTo, Call, End, LineAt, Start, after_advance, after_end, after_line, after_start, gone_to, held_after, turns_after, with_app};
     ghost use Rattle.tk_host.specs.Ready.{IsAt};
@@ -119,6 +119,7 @@ impl<M: AliasService> Host<M> {
             OnOk result (self.new.turns ≡ turns_after M.answer self.old.slice calls Start) }
         ensures cut { (calls : List (Call M)) → self.old.held ≡ held_after M.answer calls →
             IfErr result (λ fault. CutBy fault (turns_after M.answer self.old.slice calls Start) self.old self.new) }
+        ensures cut_short { IfErr result (λ fault. CutBy fault (after_start M.answer self.old).turns self.old self.new) }
     {
         match self.phase {
             Phase::Adding => {}
@@ -152,6 +153,8 @@ impl<M: AliasService> Host<M> {
             OnOk result (self.new.turns ≡ turns_after M.answer self.old.slice calls (LineAt moment line)) }
         ensures cut { (calls : List (Call M)) → self.old.held ≡ held_after M.answer calls →
             IfErr result (λ fault. CutByLine fault (turns_after M.answer self.old.slice calls (LineAt moment line)) self.old self.new) }
+        ensures cut_short { (first : List Rect) (earlier : List Line) → self.old.held.known ≡ values first earlier →
+            IfErr result (λ fault. CutShortBy fault self.old.slice (after_line M.answer first earlier (at moment line) self.old).turns self.new.turns) }
     {
         self.may_take(moment, &line)?;
         self.tested_line(moment, line)?;
@@ -174,6 +177,8 @@ impl<M: AliasService> Host<M> {
         ensures cut { (calls : List (Call M)) → self.old.held ≡ held_after M.answer calls →
             OnErr result (IsCutShort self.old.slice (turns_after M.answer self.old.slice calls (LineAt moment line)) self.new.turns
             × TellsAtLeast self.new.turns self.old.held.parts self.new.held.parts) }
+        ensures cut_short { (first : List Rect) (earlier : List Line) → self.old.held.known ≡ values first earlier →
+            OnErr result (IsCutShort self.old.slice (after_line M.answer first earlier (at moment line) self.old).turns self.new.turns) }
     {
         let routed = self.router.tested_line(moment, line);
         self.phase = Phase::Lost;
@@ -201,6 +206,7 @@ impl<M: AliasService> Host<M> {
             OnOk result (self.new.turns ≡ turns_after M.answer self.old.slice calls (AdvanceTo moment)) }
         ensures cut { (calls : List (Call M)) → self.old.held ≡ held_after M.answer calls →
             IfErr result (λ fault. CutBy fault (turns_after M.answer self.old.slice calls (AdvanceTo moment)) self.old self.new) }
+        ensures cut_short { IfErr result (λ fault. CutBy fault (after_advance M.answer moment self.old).turns self.old self.new) }
     {
         self.go_to(moment, Phase::Reached(moment))
     }
@@ -219,6 +225,7 @@ impl<M: AliasService> Host<M> {
             OnOk result (self.new.turns ≡ turns_after M.answer self.old.slice calls (End moment)) }
         ensures cut { (calls : List (Call M)) → self.old.held ≡ held_after M.answer calls →
             IfErr result (λ fault. CutBy fault (turns_after M.answer self.old.slice calls (End moment)) self.old self.new) }
+        ensures cut_short { IfErr result (λ fault. CutBy fault (after_end M.answer moment self.old).turns self.old self.new) }
     {
         self.go_to(moment, Phase::Finished(moment))
     }

@@ -2,6 +2,7 @@ ghost use Rattle.tk_host.specs.Bounds.{BoundedStages};
 ghost use Rattle.tk_host.specs.BySettle.{AloneBySettle};
 ghost use Rattle.tk_host.specs.Dues.{PassesByDues, TurnsByDues};
 ghost use Rattle.tk_host.specs.FirstFormat.{AloneWithoutRefills};
+ghost use Rattle.tk_host.specs.Passes.{PassedPasses};
 ghost use Rattle.tk_host.specs.Refusals.{OneRefusal};
 ghost use Rattle.tk_host.specs.Sections.{EachByItself};
 ghost use Rattle.tk_host.specs.Used.{AllWithin, UsedAndLeft};
@@ -28,6 +29,11 @@ pub fn bounded_stages<M: AliasMeaning>()
 /// nothing is to be done.
 pub fn passes_by_dues<M: AliasMeaning>()
     ensures { PassesByDues M.answer }
+{}
+
+/// The same as a relation: where nothing of an application is due by a moment, it has reached it; else what is due next is done, and it goes on from there.
+pub fn passed_passes<M: AliasMeaning>()
+    ensures { PassedPasses M.answer }
 {}
 
 /// So are the turns on the way told: they are those of the due moments' stages, the earliest first, and between them nobody has one.

@@ -1,7 +1,7 @@
 use Rattle.std.proofs.Common.{ap}
 use Rattle.tk_panel.specs.Panel.{panel_of}
 use Rattle.tk_panel.proofs.Others.{left_same}
-use Rattle.tk_commands.specs.Course.{started as panel_started}
+use Rattle.tk_commands.specs.Course.{job_started as panel_started}
 use Rattle.tk_app.specs.Seen.{meanings}
 use Rattle.tk_app.proofs.Shows.{panel_shown}
 use Rattle.tk_app.proofs.jobs.AppTablesJobs.start.Goals as goal

@@ -1,5 +1,5 @@
 use Rattle.std.proofs.lemmas.Result.{err_from_is_err_and}
-use Rattle.tk_host.proofs.Cut.{cut_by_line}
+use Rattle.tk_host.proofs.Cut.{cut_by_line, cut_short_by}
 use Rattle.tk_host.proofs.host.Host.line.Goals as goal
 
 pub returns-in_err-may_take-clause-refused : goal.returns-in_err-may_take-clause-refused
@@ -18,4 +18,11 @@ returns-in_err-tested_line-clause-cut g c = λ calls held. (let told = c.in_err-
 
 pub returns-in_err-may_take-clause-cut : goal.returns-in_err-may_take-clause-cut
 returns-in_err-may_take-clause-cut g c = λ calls held.
+    let p = err_from_is_err_and c.from_residual.result c.from_residual.ensures.1 in rw (p.1, p.2) tt
+
+pub returns-in_err-tested_line-clause-cut_short : goal.returns-in_err-tested_line-clause-cut_short
+returns-in_err-tested_line-clause-cut_short g c = λ first earlier known. cut_short_by _ _ _ _ (c.in_err-tested_line.ensures.cut_short first earlier known)
+
+pub returns-in_err-may_take-clause-cut_short : goal.returns-in_err-may_take-clause-cut_short
+returns-in_err-may_take-clause-cut_short g c = λ first earlier known.
     let p = err_from_is_err_and c.from_residual.result c.from_residual.ensures.1 in rw (p.1, p.2) tt

@@ -3,11 +3,10 @@ use Rattle.tk_route.specs.Lines.{values}
 use Rattle.tk_app.specs.Part.{stage_done}
 use Rattle.tk_app.specs.Turns.{Applications}
 use Rattle.tk_host.specs.declared.phase.Phase.TheVariants.{Adding}
-use Rattle.tk_host.specs.Cut.{IsCutShort}
 use Rattle.tk_host.specs.Held.{Hosted, Start, after_start, turns_after}
 use Rattle.tk_host.specs.Ready.{IsReady}
 use Rattle.tk_host.proofs.Counts.{tells_all}
-use Rattle.tk_host.proofs.Cut.{cut_by, cut_start}
+use Rattle.tk_host.proofs.Cut.{cut_by, cut_same, cut_start}
 use Rattle.tk_host.proofs.History.{history_of_start, turns_of_start}
 use Rattle.tk_host.proofs.Kept.{ready_started, routed_start, started_is}
 use Rattle.tk_host.proofs.host.Host.start.Goals as goal
@@ -42,14 +41,20 @@ returns-clause-turns g c = λ calls held.
     let adding : c.args.self.now.held.phase ≡ Adding = sym (ap (λ (h : Hosted _). h.held.phase) c.self.view_is) ∙ c.in-Adding.is in
     turns_of_start g.M.AliasMeaning.answer calls c.args.self.now _ held adding (ap (λ (h : Hosted _). h.turns) (returns-clause-started g c))
 
-pub returns-in_err-stage-clause-cut : goal.returns-in_err-stage-clause-cut
-returns-in_err-stage-clause-cut g c = λ calls held.
-    let answer = g.M.AliasMeaning.answer in
+pub returns-in_err-stage-clause-cut_short : goal.returns-in_err-stage-clause-cut_short
+returns-in_err-stage-clause-cut_short g c =
     let inside = c.self.inside in
     let old = c.args.self.now in
     let start : inside.shared.moment ≡ 0 = (c.self.invariant.1.adding c.in-Adding.is).0 in
-    let adding : old.held.phase ≡ Adding = sym (ap (λ (h : Hosted _). h.held.phase) c.self.view_is) ∙ c.in-Adding.is in
-    let cut = cut_start answer inside.phase inside.rects.items inside.router inside.slice inside.shared c.clear_turns.new.self old c.stage.new.shared.turns c.self.view_is start c.clear_turns.ensures c.in_err-stage.ensures.cut in
-    let whole : (after_start answer old).turns ≡ turns_after answer old.slice calls Start = turns_of_start answer calls old (after_start answer old).turns held adding refl in
-    cut_by _ _ old _ (subst (λ ts. IsCutShort old.slice ts c.stage.new.shared.turns) whole cut)
+    cut_by _ _ old _
+    (cut_start g.M.AliasMeaning.answer inside.phase inside.rects.items inside.router inside.slice inside.shared c.clear_turns.new.self old c.stage.new.shared.turns c.self.view_is start c.clear_turns.ensures
+    c.in_err-stage.ensures.cut)
     (tells_all inside.shared c.clear_turns.new.self c.stage.new.shared old.held.parts c.clear_turns.ensures (ap (λ (h : Hosted _). h.held.parts) c.self.view_is) c.in_err-stage.ensures.counts)
+
+pub returns-in_err-stage-clause-cut : goal.returns-in_err-stage-clause-cut
+returns-in_err-stage-clause-cut g c = λ calls held.
+    let answer = g.M.AliasMeaning.answer in
+    let old = c.args.self.now in
+    let adding : old.held.phase ≡ Adding = sym (ap (λ (h : Hosted _). h.held.phase) c.self.view_is) ∙ c.in-Adding.is in
+    let whole : (after_start answer old).turns ≡ turns_after answer old.slice calls Start = turns_of_start answer calls old (after_start answer old).turns held adding refl in
+    cut_same _ _ _ old _ whole (returns-in_err-stage-clause-cut_short g c)

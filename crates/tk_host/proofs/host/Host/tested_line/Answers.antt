@@ -1,4 +1,5 @@
 use Rattle.std.proofs.Common.{◌≡◌, ◌≤◌, ◌<◌, arith, sym, ap, ◌∙◌, subst}
+use Rattle.std.proofs.lemmas.Result.{on_err_weaker}
 use Rattle.tk_app.specs.Stages.{IsPast, first_due}
 use Rattle.tk_route.specs.Lines.{at}
 use Rattle.tk_route.specs.Routes.{deliveries}
@@ -117,19 +118,41 @@ returns-clause-turns g c = λ calls held.
     let from = reached_if_not_refused phase c.requires.begun none.0 none.1.0 in
     turns_of_line g.M.AliasMeaning.answer calls from.0 c.args.moment c.args.line c.args.self.now _ held from.1 (returns-clause-lined g c)
 
+pub returns-in_err-advance-clause-cut_short : goal.returns-in_err-advance-clause-cut_short
+returns-in_err-advance-clause-cut_short g c = λ first earlier known.
+    let inside = c.self.inside in
+    on_err _ _
+    (cut_before_line g.M.AliasMeaning.answer inside.phase (Reached c.args.moment) (at c.args.moment c.args.line) first earlier inside.rects.items inside.router inside.slice inside.shared c.clear_turns.new.self
+    c.args.self.now c.advance.new.shared.turns c.self.view_is c.clear_turns.ensures c.in_err-advance.ensures.cut)
+
 pub returns-in_err-advance-clause-cut : goal.returns-in_err-advance-clause-cut
 returns-in_err-advance-clause-cut g c = λ calls held.
     let answer = g.M.AliasMeaning.answer in
     let inside = c.self.inside in
     let old = c.args.self.now in
     let cleared = c.clear_turns.new.self in
-    on_err _ _
-    (cut_and_least old.slice _ c.advance.new.shared.turns old.held.parts c.advance.new.shared.parts
-    (cut_as old.slice _ _ c.advance.new.shared.turns (whole_of_line answer calls c.args.moment c.args.line old held)
-    (cut_before_line answer inside.phase (Reached c.args.moment) (at c.args.moment c.args.line) (first_rects calls) (lines_of calls) inside.rects.items inside.router inside.slice inside.shared cleared old
-    c.advance.new.shared.turns c.self.view_is c.clear_turns.ensures c.in_err-advance.ensures.cut))
+    let none = c.requires.tested in
+    let from = reached_if_not_refused old.held.phase c.requires.begun none.0 none.1.0 in
+    on_err_weaker _
+    (λ short. cut_and_least old.slice _ c.advance.new.shared.turns old.held.parts c.advance.new.shared.parts
+    (cut_as old.slice _ _ c.advance.new.shared.turns (whole_of_line answer calls c.args.moment c.args.line old held) short)
     (tells_at_least inside.shared cleared c.advance.new.shared old.held.parts c.clear_turns.ensures (ap (λ (h : Hosted _). h.held.parts) c.self.view_is) (fits_held answer calls old.held held)
     (counts_keep cleared c.advance.new.shared c.in_err-advance.ensures.counts)))
+    (returns-in_err-advance-clause-cut_short g c (first_rects calls) (lines_of calls) (known_lines answer calls from.0 old.held held from.1))
+
+pub returns-in_err-deliver_all-clause-cut_short : goal.returns-in_err-deliver_all-clause-cut_short
+returns-in_err-deliver_all-clause-cut_short g c = λ first earlier known.
+    let inside = c.self.inside in
+    let old = c.args.self.now in
+    let none = c.requires.tested in
+    let from = reached_if_not_refused old.held.phase c.requires.begun none.0 none.1.0 in
+    let there : inside.phase ≡ Reached from.0 = ap (λ (h : Hosted _). h.held.phase) c.self.view_is ∙ from.1 in
+    let router : inside.router ≡ old.held.known =
+    sym (known_reached inside.phase from.0 inside.rects.items inside.router there) ∙ ap (λ (h : Hosted _). h.held.known) c.self.view_is in
+    on_err _ _
+    (cut_line g.M.AliasMeaning.answer inside.phase (at c.args.moment c.args.line) first earlier inside.rects.items inside.router inside.slice (deliveries c.tested_line-routed.result) inside.shared
+    c.clear_turns.new.self c.advance.new.shared c.set_moment.new.self old c.deliver_all.new.shared.turns c.self.view_is c.clear_turns.ensures
+    (c.tested_line-routed.ensures.routes first earlier (router ∙ known)) c.in_ok-advance.ensures.brought c.in_ok-advance.ensures.turns c.set_moment.ensures c.in_err-deliver_all.ensures.cut)
 
 pub returns-in_err-deliver_all-clause-cut : goal.returns-in_err-deliver_all-clause-cut
 returns-in_err-deliver_all-clause-cut g c = λ calls held.
@@ -139,21 +162,13 @@ returns-in_err-deliver_all-clause-cut g c = λ calls held.
     let cleared = c.clear_turns.new.self in
     let came = c.advance.new.shared in
     let moved = c.set_moment.new.self in
-    let first = first_rects calls in
-    let earlier = lines_of calls in
     let none = c.requires.tested in
     let from = reached_if_not_refused old.held.phase c.requires.begun none.0 none.1.0 in
-    let there : inside.phase ≡ Reached from.0 = ap (λ (h : Hosted _). h.held.phase) c.self.view_is ∙ from.1 in
-    let router : inside.router ≡ old.held.known =
-    sym (known_reached inside.phase from.0 inside.rects.items inside.router there) ∙ ap (λ (h : Hosted _). h.held.known) c.self.view_is in
-    let is = known_lines answer calls from.0 old.held held from.1 in
-    on_err _ _
-    (cut_and_least old.slice _ c.deliver_all.new.shared.turns old.held.parts c.deliver_all.new.shared.parts
-    (cut_as old.slice _ _ c.deliver_all.new.shared.turns (whole_of_line answer calls c.args.moment c.args.line old held)
-    (cut_line answer inside.phase (at c.args.moment c.args.line) first earlier inside.rects.items inside.router inside.slice (deliveries c.tested_line-routed.result) inside.shared cleared
-    came moved old c.deliver_all.new.shared.turns c.self.view_is c.clear_turns.ensures (c.tested_line-routed.ensures.routes first earlier (router ∙ is))
-    c.in_ok-advance.ensures.brought c.in_ok-advance.ensures.turns c.set_moment.ensures c.in_err-deliver_all.ensures.cut))
+    on_err_weaker _
+    (λ short. cut_and_least old.slice _ c.deliver_all.new.shared.turns old.held.parts c.deliver_all.new.shared.parts
+    (cut_as old.slice _ _ c.deliver_all.new.shared.turns (whole_of_line answer calls c.args.moment c.args.line old held) short)
     (tells_at_least inside.shared cleared c.deliver_all.new.shared old.held.parts c.clear_turns.ensures (ap (λ (h : Hosted _). h.held.parts) c.self.view_is) (fits_held answer calls old.held held)
     (keeps_both cleared moved c.deliver_all.new.shared
     (counts_keep cleared moved (counts_both cleared came moved c.in_ok-advance.ensures.counts (counts_same came moved (ap (λ (h : Applications _). h.turns) c.set_moment.ensures) (ap (λ (h : Applications _). h.parts) c.set_moment.ensures))))
     c.in_err-deliver_all.ensures.keeps)))
+    (returns-in_err-deliver_all-clause-cut_short g c (first_rects calls) (lines_of calls) (known_lines answer calls from.0 old.held held from.1))

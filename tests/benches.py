@@ -126,12 +126,12 @@ def mistakes(runs):
         ("a bracket missing", "[string length $code]]", "[string length $code]", "a script ended with an error: err", "missing close-bracket"),
         ("an operand missing", "$wrong == 3", "$wrong ==", "a script ended with an error: err", "syntax error in expression"),
         ("an option misspelt", "-relief sunken", "-releif sunken", 'unknown option "-releif"'),
-        ("a loop without an end", "incr wrong\n", "while 1 {}\n", "it ran out of steps"),
+        ("a loop without an end", "incr wrong\n", "while 1 {}\n", "it ran out of steps, of which it had 20000: "),
         ("a window misspelt", "button .row4.ok", "button .row4.okay", "there is no window .row4.ok", "win .row4.clear"),
     ]
     for what, old, new, *words in in_script:
         mistake(runs, what, 1, "keypad.toml", "keypad.tcl", old, new, "keypad.toml: keypad", "FAIL", *words)
-    mistake(runs, "a budget too small", 1, "keypad.toml", "keypad.toml", "steps = 20000", "steps = 60", "it ran out")
+    mistake(runs, "a budget too small", 1, "keypad.toml", "keypad.toml", "steps = 20000", "steps = \"60/1\"", "it ran out of steps, of which it had 60, and 1 more with each event: ")
     mistake(runs, "a click beside a button", 1, "keypad.toml", "keypad.toml", 'window = ".row1.k1" }', 'window = ".row1.k1", x = 200 }', "line 13, at 100 ms", "isn't hit")
     mistake(runs, "a click under another window", 1, "keypad.toml", "keypad.toml", 'window = ".row1.k1" }', 'window = ".row1" }', "window .row1 isn't hit: there .row1.k2 lies above it")
     mistake(runs, "no keyboard", 1, "modes.toml", "modes.toml", 'window = ".switch" }', 'window = ".switch", focus = false }', "no panel has the keyboard")
@@ -156,7 +156,8 @@ def mistakes(runs):
         ("two gestures in one", 'type = "3"', 'type = "3"\nkey = "4"', "and one of click"),
         ("a line that is none", 'type = "3"', 'line = "press 9"', "line wants a line of a session without its moment"),
         ("a name that is none", 'name = "keypad"', 'name = "key-pad"', "there is no panel keypad"),
-        ("nothing to see", 'text = "ready"\ntimers = 0', "", "a [[see]] has one of"),
+        ("nothing to see", 'window = ".says"\ntext = "ready"\ntimers = 0', "", "a [[see]] has a window with what it shows, or one of"),
+        ("nothing to see of a window", 'text = "ready"\ntimers = 0', "", "keypad.toml:69: a window has one of there, text"),
         ("a part without a window", 'window = ".shown"\n', "", "text is of a window"),
     ]
     for what, old, new, *words in in_bench:
@@ -246,13 +247,257 @@ def traced(runs):
 
     def tells(status, text):
         lines = text.splitlines()
-        wanted = ["100 focus form", "100 press 1", "100 form: win .says Label 64 40 132 20 1 a name is wanted", "250 keydown A", "250 form: win .name.field Entry 68 0 132 20 1 Ada", "650 form: out 650 sent Ada 12"]
+        wanted = ["100 focus form", "100 press 1: it came to .send of form", "100 form: win .says Label 64 40 132 20 1 a name is wanted", "250 keydown A: it came to .name.field of form, which has the keyboard", "250 form: binding <Key> of Entry ran", "250 form: win .name.field Entry 68 0 132 20 1 Ada", "650 form: out 650 sent Ada 12"]
         places = [lines.index(line) if line in lines else -1 for line in wanted]
         see(status == 0 and -1 not in places and places == sorted(places), f"the trace of the form: {status} {places}\n{text}")
+        see("400 form: binding <Return> of .age.field ran" in lines, f"the trace of the form has no binding:\n{text}")
         see(all(re.match("[0-9]+ ", line) for line in lines) and [int(line.split()[0]) for line in lines] == sorted(int(line.split()[0]) for line in lines), f"the moments of a trace: {text}")
 
     runs.add(["run", "--trace", f"{room.name}/form.toml"], tells)
+    (room / "still.toml").write_text('end = 100\n[[panel]]\nname = "still"\ntext = "label .l -text a -width 4; pack .l"\nat = [0, 0]\nsize = [90, 60]\nsteps = 90\n[[do]]\ntime = 10\nclick = { panel = "still", window = ".l" }\n[[do]]\nafter = 5\ntype = "a"\n[[do]]\nafter = 5\nline = "move 200 200"\n[[do]]\nafter = 5\nline = "press 1"\n')
+
+    def tells_who(status, text):
+        wanted = ["10 press 1: no script ran, it came to .l of still", "10 release 1", "15 keydown a: no script ran, it came to . of still, which has the keyboard", "25 press 1: no script ran, it came to no panel"]
+        see(status == 0 and all(line in text.splitlines() for line in wanted), f"presses and keys that ran no script: {status}\n{text}")
+
+    runs.add(["run", "--trace", f"{room.name}/still.toml"], tells_who)
     runs.add(["session", "--trace", f"{room.name}/form.toml"], lambda status, text: see(status == 2 and "usage: panels check" in text, f"a trace of a session: {status} {text}"))
+
+
+def dragged(runs):
+    """A drag is a press, moves of which each goes its share of what is left of the way, and the release; scripts are told each move."""
+    room = runs.copy()
+    bench = 'end = 100\n[[panel]]\nname = "a"\ntext = "bind . <B1-Motion> {puts [list %x %y]}"\nat = [10, 20]\nsize = [90, 60]\nsteps = 900\n[[do]]\ntime = 10\ndrag = { panel = "a", window = ".", x = 4, y = 50, to = ".", to-x = 41, to-y = 20 }\n'
+    files = {"whole.toml": bench, "few.toml": bench.replace("to-y = 20", "to-y = 20, moves = 3"), "one.toml": bench.replace("to-y = 20", "to-y = 20, moves = 1"), "none.toml": bench.replace("to-y = 20", "to-y = 20, moves = 0")}
+    for name, text in files.items():
+        (room / name).write_text(text)
+
+    def moves(name, places):
+        lines = [f"10 move {10 + x} {20 + y}" for x, y in [(4, 50), *places]]
+        lines[1:1] = ["10 focus a", "10 press 1"]
+        runs.add(["session", f"{room.name}/{name}"], lambda status, text: see(status == 0 and "\n".join([*lines, "10 release 1", "100 end", ""]) in text, f"the lines of {name}: {status}\n{text}"))
+        runs.add(["run", f"{room.name}/{name}"], lambda status, text: see(re.findall("^out 10 (.*)", text, re.M) == [f"{x} {y}" for x, y in places], f"the moves that {name} tells:\n{text}"))
+
+    moves("whole.toml", [(8, 47), (12, 44), (16, 40), (21, 36), (26, 32), (31, 28), (36, 24), (41, 20)])
+    moves("few.toml", [(16, 40), (28, 30), (41, 20)])
+    moves("one.toml", [(41, 20)])
+    runs.add(["check", f"{room.name}/none.toml"], lambda status, text: see(status == 2 and "moves wants a whole number from 1 to 1000" in text, f"a drag of no moves: {status} {text}"))
+
+
+# A panel with a window of each class, and what isn't in its section.
+ASKED = {
+    "panel.tcl": """set lamp on
+set room(heat) 5
+label .says -textvariable lamp -width 6
+button .go -text Go -state disabled
+entry .name -textvariable who -width 12
+listbox .rows -height 3 -selectmode multiple
+.rows insert end Bern Biel {La Chaux-de-Fonds}
+pack .says .go .name .rows
+focus .name
+wm title . {Hall 7}
+""",
+    "panel.toml": """end = 500
+[[panel]]
+name = "hall"
+script = "panel.tcl"
+at = [0, 0]
+size = [200, 200]
+steps = 900
+[[do]]
+time = 10
+focus = "hall"
+[[do]]
+time = 20
+type = "Ada"
+[[do]]
+time = 30
+key = "Left"
+[[do]]
+time = 40
+click = { panel = "hall", window = ".rows", y = 8, focus = false }
+[[do]]
+time = 50
+click = { panel = "hall", window = ".rows", y = 40, focus = false }
+[[see]]
+time = 25
+panel = "hall"
+window = ".name"
+value = "Ada"
+cursor = 3
+[[see]]
+time = 100
+panel = "hall"
+window = ".name"
+text = "Ada"
+cursor = 2
+[[see]]
+panel = "hall"
+window = ".rows"
+value = ["Bern", "Biel", "La Chaux-de-Fonds"]
+selection = [0, 2]
+active = 2
+options = { -height = 3, -selectmode = "multiple" }
+[[see]]
+panel = "hall"
+window = ".go"
+options = { -state = "disabled", -text = "Go" }
+[[see]]
+panel = "hall"
+focus = ".rows"
+title = "Hall 7"
+variables = { lamp = "on", "room(heat)" = 5, gone = false, who = "Ada" }
+""",
+}
+# Mistakes in the bench, each with the status and what is told.
+UNASKED = [
+    ("cursor = 2", "cursor = 1", 1, "line 29, at 100 ms: the cursor of window .name: wanted 1, got 2"),
+    ("selection = [0, 2]", "selection = [0]", 1, "the selected rows of window .rows: wanted [0], got [0, 2]"),
+    ("active = 2", "active = 0", 1, "the active row of window .rows: wanted 0, got 2"),
+    ("-height = 3", "-height = 4", 1, 'option -height of window .rows: wanted "4", got "3"'),
+    ("-text = \"Go\"", "-txet = \"Go\"", 1, 'option -txet of window .go: wanted "Go", got none, there is no such thing. The windows:', "win .go Button"),
+    ('window = ".go"', 'window = ".gone"', 1, "option -state of window .gone: wanted", "win .rows Listbox"),
+    ('value = "Ada"', 'value = "Eve"', 1, 'at 25 ms: the value of window .name: wanted "Eve", got "Ada"'),
+    ('value = ["Bern", "Biel", "La Chaux-de-Fonds"]', 'value = ["Bern", "Biel"]', 1, 'the value of window .rows: wanted "Bern Biel", got "Bern Biel {La Chaux-de-Fonds}"'),
+    ('focus = ".rows"', 'focus = ".name"', 1, 'the focus window: wanted ".name", got ".rows"'),
+    ('title = "Hall 7"', 'title = "Hall 8"', 1, 'the title: wanted "Hall 8", got "Hall 7"'),
+    ("gone = false", "lamp2 = \"on\"", 1, 'variable lamp2: wanted "on", got none, there is no such thing'),
+    ("gone = false", "room = false", 0, "ok    "),
+    ('"room(heat)" = 5', '"room(heat)" = 6', 1, 'variable room(heat): wanted "6", got "5"'),
+    ("cursor = 2", "cursor = \"2\"", 2, "panel.toml:34: cursor wants a whole number from 0 to"),
+    ("selection = [0, 2]", "selection = 0", 2, "selection wants rows of a listbox from 0 on, as [0, 2]"),
+    ("gone = false", "gone = true", 2, "variables wants a table of variables"),
+    ("options = { -state", "option = { -state", 2, "there is no key option here: did you mean options?"),
+    ('window = ".rows"\n', "", 2, "value is of a window: window"),
+    ('title = "Hall 7"', 'title = "Hall 7"\nwindow = ".go"', 2, "panel.toml:50: a window has one of"),
+]
+
+
+def asked(runs):
+    """What no section tells is asked of the panel's record: options, values, rows, cursors, the focus window, the title, variables."""
+    def room_with(**changes):
+        room = runs.copy()
+        for name, text in ASKED.items():
+            old, new = changes.get(name.rpartition(".")[2], ("", ""))
+            see(old in text, f"{name} has no {old!r}")
+            (room / name).write_text(text.replace(old, new, 1) if old else text)
+        return room
+
+    room = room_with()
+    runs.add(["check", f"{room.name}/panel.toml"], lambda status, text: see((status, text[:6]) == (0, "ok    "), f"what a panel's record tells: {status}\n{text}"))
+    (room / "unseen.toml").write_text(ASKED["panel.toml"].partition("[[see]]")[0])
+    shown = []
+    for name in ("panel.toml", "unseen.toml"):
+        runs.add(["run", f"{room.name}/{name}"], lambda status, text: see(shown.append(text) or text.startswith("app hall running ") and shown[0] == text, f"looking at a panel changes it: {shown}"))
+    for old, new, wanted, *words in UNASKED:
+        room = room_with(toml=(old, new))
+        runs.add(["check", f"{room.name}/panel.toml"], lambda status, text, new=new, wanted=wanted, words=words: see(status == wanted and all(word in text for word in words), f"{new!r} of a panel's record: {status}, wanted {words}\n{text}"))
+
+
+# A script with a line for each mistake: of each the line, what is told, and what to write instead.
+LINTED = [
+    ("package require Tk", 'invalid command name "package"', "Tk is there"),
+    ("wm resizable . 0 0", 'wm resizable: bad option "resizable"', "the bench says the rectangle"),
+    ("grid .a .b", 'invalid command name "grid"', "pack"),
+    ("button .b -txet Go -width 4", 'unknown option "-txet"', "did you mean -text?"),
+    ("button .c -text $label -relief sunkn", 'bad value "sunkn" for option "-relief"', "did you mean sunken?"),
+    (".b config -state disabled", '.b config: bad option "config"', "configure"),
+    (".b configure -stat disabled -txt a", 'unknown option "-txt"', "did you mean -text?"),
+    (".b invok", 'bad option "invok"', "did you mean invoke?"),
+    ("pack .b -sied left", 'unknown option "-sied"', "did you mean -side?"),
+    ("pack .b -side lefft", 'bad value "lefft"', "did you mean left?"),
+    ("pack .$name.k1 .$name.k2 -side rigth", 'bad value "rigth"', "did you mean right?"),
+    ("event generate $window <Buton-1>", 'bad event type or keysym "Buton"', "did you mean Button?"),
+    ("bind . <Buton-1> {puts pressed}", 'bad event type or keysym "Buton"', "did you mean Button?"),
+    ("bind . <Key-Enter> {puts %K}", 'bad event type or keysym "Enter"', "Return"),
+    ("bind .b <Button-1> {bell}", 'bell: invalid command name "bell"', "a label that tells it"),
+    ("after 100 {puts stderr late}", 'puts stderr: bad option "stderr"', "one channel"),
+    ("proc ask {} {if {[string is digit 4]} {return 1}}", 'string is: bad option "is"', "string match"),
+    ("switch $mode {on {set a [lassing {1 2} x y]} off {}}", 'invalid command name "lassing"', ""),
+    ("foreach name {a b} {lsearch -all $name x}", 'bad option "-all"', ""),
+    ("set a 1 2", "set a: wrong # args", ""),
+    ("tunr 3", 'invalid command name "tunr"', "did you mean turn?"),
+]
+# What isn't told: words that are there, or that nobody knows before the script runs.
+UNTOLD = """proc turn {by} {return $by}
+listbox .l -selectmode multiple
+frame .f$by
+.l selection clear 0 end
+.$name config -state disabled
+$window config
+event add <<Go>> <Control-Key-g>
+bind .l <<Go>> {+turn %x; %W selection clear 0 end}
+after idle [list turn 3]
+catch {turn 4} said
+uplevel #0 {set a 1}
+switch -exact -- $mode {on - off {turn 1}}
+if {$by > 2 && ![winfo exists .f]} {turn 1} elseif {$by} then {turn 2} else {turn 3}
+"""
+
+
+def linted(runs):
+    """Of a script each mistake is told in its line, with what to write instead, and nothing else is."""
+    room = runs.copy()
+    (room / "wrong.tcl").write_text(UNTOLD + "".join(f"{line}\n" for line, *_ in LINTED))
+    (room / "right.tcl").write_text(UNTOLD)
+    first = UNTOLD.count("\n") + 1
+
+    def tells(status, text):
+        lines = text.splitlines()
+        see(status == 1 and len(lines) == len(LINTED), f"lint tells {len(lines)} mistakes of {len(LINTED)}, status {status}:\n{text}")
+        for number, (line, *words) in enumerate(LINTED, first):
+            own = [one for one in lines if one.startswith(f"{room.name}/wrong.tcl:{number}: ")]
+            see(len(own) == 1 and all(word in own[0] for word in words), f"lint of {line!r}: {own}")
+
+    runs.add(["lint", f"{room.name}/wrong.tcl"], tells)
+    runs.add(["lint", f"{room.name}/right.tcl"], lambda status, text: see((status, text) == (0, ""), f"lint of a script with no mistake: {status}\n{text}"))
+    runs.add(["lint", *(f"{room.name}/{name}" for name in benches())], lambda status, text: see((status, text) == (0, ""), f"lint of the benches: {status}\n{text}"))
+    for file, text, words in (("open.tcl", "set a 1\nproc work {} {\n    if {1} {\n    set b 2\n}\n", "open.tcl:2: missing close-brace"), ("near.tcl", "set a 1\nproc work {} {\n    if {1} {\n    }else {\n    }\n}\n", "near.tcl:4: extra characters after close-brace")):
+        (room / file).write_text(text)
+        runs.add(["lint", f"{room.name}/{file}"], lambda status, said, words=words: see(status == 1 and words in said and said.count("\n") == 1, f"lint of a script that can't be read: {status} {said}"))
+    runs.add(["lint", "none.tcl"], lambda status, text: see(status == 2 and "none.tcl can't be read" in text, f"lint of no file: {status} {text}"))
+
+
+# Mistakes in a script of ten lines, and where each is told.
+PLACED = """label .shown -textvariable shown -width 8
+button .more -text More -command {more 2}
+proc more {by} {
+    global count shown
+    incr count $by
+    set shown [
+        string repeat * $count
+    ]
+    if {$count > 3} {tell}
+}
+proc tell {} {
+    puts "it is $::count"
+}
+set count 0
+pack .shown .more
+bind . <Key> {more 1}
+after 500 {more 1}
+"""
+PLACES = [
+    ("incr count $by", "incr count $bx", ":5: incr count $bx", "in more, called in line 2", "run by the -command of .more, in line 2"),
+    ("    puts", "    putz", ":12: putz", "in tell, called in line 9", "in more, called in line 17", "run by a timer or an idle script, made in line 17"),
+    ("set count 0", "set count nil", ":5: incr count $by", "expected integer", "-command of .more"),
+    ("string repeat * $count", "string repaet * $count", ":7: string repaet", "in more, called in line 2"),
+    ("pack .shown .more", "pack .shown .mor", ":15: pack .shown .mor", "run by the panel's script"),
+    ("{more 1}\nafter", "{more 1\nafter", ":16: missing close-brace"),
+    ("after 500 {more 1}", "after 500 {mor 1}", ":17: mor 1", "run by a timer or an idle script, made in line 17"),
+    ("incr count $by", "while 1 {incr count}", "it ran out of steps", "at 100 ms it stood in", ":5: ", "in more, called in line 2", "-command of .more"),
+]
+
+
+def placed(runs):
+    """Of a script that fails the line is told, with the command, the procedures and what ran it."""
+    for old, new, *words in PLACES:
+        room = runs.copy()
+        see(PLACED.count(old) == 1, f"the script has no {old!r}")
+        (room / "more.tcl").write_text(PLACED.replace(old, new))
+        (room / "more.toml").write_text('end = 600\n[[panel]]\nname = "more"\nscript = "more.tcl"\nat = [0, 0]\nsize = [90, 60]\nsteps = 900\n[[do]]\ntime = 100\nclick = { panel = "more", window = ".more" }\n[[do]]\nafter = 5\ntype = "a"\n')
+        see_all = lambda status, text, new=new, words=words: see(status == 1 and all(word in text for word in words), f"where {new!r} failed: {status}, wanted {words}\n{text}")
+        runs.add(["check", f"{room.name}/more.toml"], see_all)
 
 
 SVG = "{http://www.w3.org/2000/svg}"
@@ -336,6 +581,67 @@ def around(top):
     see(ended.returncode == 0 and "\r" not in ended.stdout and f"{len(names)} of {len(names)}: {names[-1]}" in shown and shown.endswith("\r\x1b[K"), f"a terminal shows {shown!r}")
 
 
+# Lines, and the answer to each: its last line is "ok" or begins with "refused:".
+LIVED = [
+    ("tkhost 3", "refused: fault 36, line 1 is: tkhost 3"),
+    ("tkhost 2", "ok"),
+    ("app a 0 0 100", "refused: fault 36, line 2 is: app a 0 0 100"),
+    ("section a", "refused: fault 36"),
+    ("app a 0 0 100 60 900", "ok"),
+    ("app b 90 0 100 60 900", "refused: fault 36"),
+    ("alias place const Hall 7", "ok"),
+    ("alias place const Hall 8", "refused: fault 39"),
+    ("script 2\nbutton .b -text Go -command {puts [place]}\npack .b", "ok"),
+    ("app b 90 0 100 60 900", "refused: fault 34"),
+    ("app b 100 0 100 60 900", "ok"),
+    ("script 1\nafter 300 {puts late}", "ok"),
+    ("events", "ok"),
+    ("turns", "turn a 2\nturn b 1\nok"),
+    ("window a .b", "win .b Button 32 0 36 28 1 Go\nok"),
+    ("window a .c", "refused: the panel has no window of this path"),
+    ("section c", "refused: no panel has this name"),
+    ("100 move 50 30", "ok"),
+    ("90 press 1", "refused: its moment is before that of a line above"),
+    ("100 press 1", "ok"),
+    ("100 release 1", "ok"),
+    ("100 click .b", "refused: this is no line"),
+    ("100 focus c", "refused: no panel has this name"),
+    ("100 rect b 50 0 90 60", "refused: the new rectangle shares a pixel"),
+    ("section b", "app b running 899\ntree\nwin . Tk 0 0 100 60 1\ntimers\ntimer after#0 300 puts late\ndone\nok"),
+    ("advance 50", "refused: its moment is before"),
+    ("advance 300", "ok"),
+    ("section b", "app b running 897\nout 300 late\ntree\nwin . Tk 0 0 100 60 1\ntimers\ndone\nok"),
+    ("200 end", "refused: its moment is before"),
+]
+
+
+def lived():
+    """A session over a pipe: each line is answered before the next is written, and at its end it has written what the same session writes that is played whole."""
+    def answer(program, lines):
+        program.stdin.write(f"{lines}\n")
+        program.stdin.flush()
+        told = []
+        while not told or told[-1] != "ok" and not told[-1].startswith("refused: "):
+            line = program.stdout.readline()
+            if not line:
+                break
+            told.append(line.rstrip("\n"))
+        return "\n".join(told)
+
+    with subprocess.Popen([built(BENCHES), "live"], stdin=subprocess.PIPE, stdout=subprocess.PIPE, text=True) as program:
+        for lines, wanted in LIVED:
+            told = answer(program, lines)
+            see(told == wanted or wanted.startswith("refused: ") and told.startswith(wanted) and "\n" not in told, f"live: {lines!r} is answered {told!r}, and not {wanted!r}")
+        ended = answer(program, "400 end")
+        see(program.wait(timeout=60) == 0, "live doesn't end with status 0")
+    session = [lines for lines, wanted in LIVED if not wanted.startswith("refused") and lines.split()[0] not in ("turns", "window", "section", "advance")]
+    if built(HOST).exists():
+        whole = subprocess.run([built(HOST)], input="".join(f"{lines}\n" for lines in [*session, "400 end"]), capture_output=True, text=True)
+        see(whole.returncode == 0 and whole.stdout + "ok" == ended, f"live ends with {ended!r}, and the session writes {whole.stdout!r}")
+    ended = subprocess.run([built(BENCHES), "live"], input="tkhost 1\n", capture_output=True, text=True)
+    see((ended.returncode, ended.stdout) == (0, "ok\n"), f"live whose input ends: {ended}")
+
+
 def writing(top):
     """What `new` and `accept` write."""
     def run(*words):
@@ -357,13 +663,14 @@ def main():
         sys.exit(__doc__)
     with tempfile.TemporaryDirectory() as top:
         runs = Runs(top)
-        for part in (check_all, changes, mistakes, statuses, formats, shards, isolated, traced):
+        for part in (check_all, changes, mistakes, statuses, formats, shards, isolated, traced, dragged, asked, linted, placed):
             part(runs)
         runs.run_all()
         if not TRYING:
             writing(top)
             drawn(top)
             around(top)
+            lived()
     print("".join(f"{fault}\n" for fault in faults), end="")
     print(f"benches: {count} things seen, {len(faults)} faults")
     return 1 if faults else 0

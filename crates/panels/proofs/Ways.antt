@@ -1,21 +1,17 @@
 -- How far a bench has come, call by call.
-use Rattle.std.proofs.Common.{◌≡◌, ℕ, suc, ◌+◌, ◌<◌, List, [], ◌∷◌, ◌++◌, length, get_or, take, drop, map, refl, ap, sym, subst, ◌∙◌, arith, append_assoc, append-nil}
+use Rattle.std.proofs.Common.{◌≡◌, ℕ, suc, ◌+◌, ◌<◌, List, [], ◌∷◌, ◌++◌, length, get_or, take, map, refl, ap, sym, ◌∙◌, arith}
 use Rattle.std.proofs.lemmas.List.{take_more}
 use Rattle.std.proofs.lemmas.List.{length-take-le}
-use Rattle.std.proofs.Math.Seq.{drop-cons, drop-length}
 use Rattle.tk_route.specs.Lines.{focus_by, rects_by}
 use Rattle.tk_route.specs.declared.line.HostLine.{HostLine}
 use Rattle.tk_app.specs.Seen.{Meaning}
-use Rattle.tk_host.specs.Held.{AddApp, AdvanceTo, Call, Held, LineAt, held_after}
-use Rattle.tk_session.specs.declared.session.AppBlock.{AppBlock}
-use Rattle.tkhost.specs.Calls.{adding, given_of}
-use Rattle.tkhost.specs.Play.{Serve}
+use Rattle.tk_host.specs.Held.{AdvanceTo, Call, Held, LineAt, held_after}
 use Rattle.tk_session.specs.declared.session.EventLine.{EventLine}
 use Rattle.panels.specs.declared.bench.Entry.{Entry}
 use Rattle.panels.specs.declared.course.Course.{Course}
-use Rattle.panels.specs.declared.finding.Found.{Found}
+use Rattle.panels.specs.Gestures.{came}
 use Rattle.panels.specs.Course.{IsAt, Way, advanced, entered, handed, handed_all, went, with_found}
-use Rattle.panels.specs.Looks.{told}
+use Rattle.panels.specs.Looks.{ToldFinding, told}
 
 module _ {M : Type 0} where
   pub handed_all-append : (moment : ℕ) (lines more : List HostLine) (way : Way M) → handed_all moment (lines ++ more) way ≡ handed_all moment more (handed_all moment lines way)
@@ -50,12 +46,14 @@ module _ {M : Type 0} (answer : M → Meaning) where
   pub at_handed : (way : Way M) (event : EventLine) (held after : Held M) (course later : Course) → IsAt answer way held course
       → ((calls : List (Call M)) → held ≡ held_after answer calls → after ≡ held_after answer (calls ++ LineAt event.moment event.line ∷ []))
       → later.screen.rects.items ≡ rects_by event.line course.screen.rects.items → later.screen.keys ≡ focus_by event.line course.screen.keys
+      → later.screen.pointer ≡ came event.line course.screen.pointer
       → later.events.items ≡ course.events.items ++ event ∷ [] → later.findings.items ≡ course.findings.items
       → IsAt answer (handed event way) after later
-  at_handed way event held after course later is history rects keys events findings = record {
+  at_handed way event held after course later is history rects keys pointer events findings = record {
     held_is = history way.calls is.held_is;
     rects_are = rects ∙ ap (rects_by event.line) is.rects_are;
     keys_are = keys ∙ ap (focus_by event.line) is.keys_are;
+    pointer_is = pointer ∙ ap (came event.line) is.pointer_is;
     events_are = events ∙ ap (λ es. es ++ event ∷ []) is.events_are;
     found_are = ap (map told) findings ∙ is.found_are;
   }
@@ -68,60 +66,22 @@ module _ {M : Type 0} (answer : M → Meaning) where
     held_is = history way.calls is.held_is;
     rects_are = is.rects_are;
     keys_are = is.keys_are;
+    pointer_is = is.pointer_is;
     events_are = is.events_are;
     found_are = is.found_are;
   }
 
   -- what was found
-  pub at_found : (way : Way M) (held : Held M) (course later : Course) (found : List (ℕ × Found × List ℕ)) → IsAt answer way held course
-      → later.screen.rects.items ≡ course.screen.rects.items → later.screen.keys ≡ course.screen.keys → later.events.items ≡ course.events.items
+  pub at_found : (way : Way M) (held : Held M) (course later : Course) (found : List ToldFinding) → IsAt answer way held course
+      → later.screen.rects.items ≡ course.screen.rects.items → later.screen.keys ≡ course.screen.keys → later.screen.pointer ≡ course.screen.pointer
+      → later.events.items ≡ course.events.items
       → map told later.findings.items ≡ map told course.findings.items ++ found
       → IsAt answer (with_found found way) held later
-  at_found way held course later found is rects keys events findings = record {
+  at_found way held course later found is rects keys pointer events findings = record {
     held_is = is.held_is;
     rects_are = rects ∙ is.rects_are;
     keys_are = keys ∙ is.keys_are;
+    pointer_is = pointer ∙ is.pointer_is;
     events_are = events ∙ is.events_are;
     found_are = findings ∙ ap (λ fs. fs ++ found) is.found_are;
   }
-
--- Panels are added one after another: these calls were made, and those that add the others, each with its aliases, are left.
-module _ {M : Type 0} (answer : M → Meaning) where
-  pub record Adds (panels : List AppBlock) (lists : List (List (List ℕ × M))) (count : ℕ) (left : List (List (List ℕ × M))) (held : Held M) : Type 0 where
-    pub calls : List (Call M)
-    pub now : held ≡ held_after answer calls
-    pub all : calls ++ adding (drop count panels) left ≡ adding panels lists
-    pub serve : Serve (drop count panels) left
-
-  module _ (panels : List AppBlock) (lists left : List (List (List ℕ × M))) (count : ℕ) (held : Held M) (adds : Adds panels lists count left held) (panel : AppBlock)
-      (within : count < length panels) (is : panel ≡ get_or panels count panel) where
-    next_panels : drop count panels ≡ panel ∷ drop (count + 1) panels
-    next_panels = drop-cons panels count panel within ∙ ap (λ a. a ∷ drop (suc count) panels) (sym is) ∙ ap (λ n. panel ∷ drop n panels) (let e : suc count ≡ count + 1 = omega arith in e)
-
-    -- a list of aliases is left for the next one
-    pub list_left : left ≡ [] → ⊥
-    list_left none = subst (Serve {M = M} (panel ∷ drop (count + 1) panels)) none (subst (λ rest. Serve {M = M} rest left) next_panels adds.serve)
-
-    pub adds_one : (aliases : List (List ℕ × M)) (others : List (List (List ℕ × M))) → left ≡ aliases ∷ others → (after : Held M)
-        → ((calls : List (Call M)) → held ≡ held_after answer calls → after ≡ held_after answer (calls ++ AddApp (given_of panel aliases) ∷ [])) → Adds panels lists (count + 1) others after
-    adds_one aliases others from after history =
-        let one : Call M = AddApp (given_of panel aliases) in
-        let serves : Serve (panel ∷ drop (count + 1) panels) (aliases ∷ others) =
-        subst (Serve {M = M} (panel ∷ drop (count + 1) panels)) from (subst (λ rest. Serve {M = M} rest left) next_panels adds.serve) in
-        let split : adding (drop count panels) left ≡ one ∷ adding (drop (count + 1) panels) others =
-        ap (λ rest. adding rest left) next_panels ∙ ap (adding (panel ∷ drop (count + 1) panels)) from in
-        record {
-          calls = adds.calls ++ one ∷ [];
-          now = history adds.calls adds.now;
-          all = append_assoc adds.calls (one ∷ []) (adding (drop (count + 1) panels) others) ∙ ap (λ rest. adds.calls ++ rest) (sym split) ∙ adds.all;
-          serve = serves.1;
-        }
-
-  pub adds_none : (panels : List AppBlock) (lists left : List (List (List ℕ × M))) (held : Held M) → left ≡ lists → Serve panels lists → held ≡ held_after answer [] → Adds panels lists 0 left held
-  adds_none panels lists left held same serve empty =
-      record { calls = []; now = empty; all = ap (adding panels) same; serve = subst (Serve {M = M} panels) (sym same) serve }
-
-  pub adds_all : (panels : List AppBlock) (lists left : List (List (List ℕ × M))) (held : Held M) → Adds panels lists (length panels) left held → held ≡ held_after answer (adding panels lists)
-  adds_all panels lists left held adds =
-      let none : adding (drop (length panels) panels) left ≡ [] = ap (λ rest. adding rest left) (drop-length panels) in
-      adds.now ∙ ap (held_after answer) (sym (append-nil adds.calls) ∙ ap (λ rest. adds.calls ++ rest) (sym none) ∙ adds.all)

@@ -21,16 +21,19 @@ use Rattle.panels.specs.declared.finding.Found.{Found}
 use Rattle.panels.specs.declared.finding.Found.TheVariants.{Missed}
 use Rattle.panels.specs.declared.pane.Miss.{Miss}
 use Rattle.panels.specs.declared.course.Course.{Course}
-use Rattle.panels.specs.Gestures.{outcome_of}
-use Rattle.panels.specs.Looks.{told, unseen_from}
+use Rattle.panels.specs.declared.gesture.Spot.{Spot}
+use Rattle.panels.specs.Asked.{NothingTold, answer_to}
+use Rattle.panels.specs.Gestures.{came, outcome_of}
+use Rattle.panels.specs.Looks.{ToldFinding, told, unseen_from}
 
 -- How far a bench has come: the calls of its host, what is known of the screen, the lines that its gestures became, and what was found.
 pub record Way (M : Type 0) : Type 0 where
   pub calls : List (Call M)
   pub rects : List Rect
   pub keys : Option ℕ
+  pub pointer : Option Spot
   pub events : List EventLine
-  pub found : List (ℕ × Found × List ℕ)
+  pub found : List ToldFinding
 
 -- the slot of the panel that a gesture is for; the first where it is for none
 abbrev pub slot_of : Gesture → ℕ
@@ -45,6 +48,7 @@ module _ {M : Type 0} where
     calls = way.calls ++ LineAt event.moment event.line ∷ [];
     rects = rects_by event.line way.rects;
     keys = focus_by event.line way.keys;
+    pointer = came event.line way.pointer;
     events = way.events ++ event ∷ [];
     found = way.found;
   }
@@ -54,20 +58,20 @@ module _ {M : Type 0} where
   handed_all moment [] way = way
   handed_all moment (line ∷ lines) way = handed_all moment lines (handed (record { moment = moment; line = line }) way)
 
-  abbrev pub with_found : List (ℕ × Found × List ℕ) → Way M → Way M
+  abbrev pub with_found : List ToldFinding → Way M → Way M
   with_found found way = record way { found = way.found ++ found }
 
   -- a gesture that became these lines, or that hit nothing, where its panel had this section
   abbrev pub performed : ℕ → ℕ → List ℕ → Result (List HostLine) Miss → Way M → Way M
   performed entry moment section (Ok lines) way = handed_all moment lines way
-  performed entry moment section (Err miss) way = with_found ((entry, Missed miss, section) ∷ []) way
+  performed entry moment section (Err miss) way = with_found (record { entry = entry; found = Missed miss; section = section; answer = NothingTold } ∷ []) way
 
   abbrev pub advanced : ℕ → Way M → Way M
   advanced moment way = record way { calls = way.calls ++ AdvanceTo moment ∷ [] }
 
   -- before the first entry: the panels were added, each with its aliases, and have run their scripts
   abbrev pub begun : List AppBlock → List (List (List ℕ × M)) → Way M
-  begun panels lists = record { calls = adding panels lists ++ Start ∷ []; rects = rects_of panels; keys = None; events = []; found = [] }
+  begun panels lists = record { calls = adding panels lists ++ Start ∷ []; rects = rects_of panels; keys = None; pointer = None; events = []; found = [] }
 
 module _ {M : Type 0} (answer : M → Meaning) where
   -- what the panel in a slot shows after calls of the host: its section, by itself alone; nothing where the slot has none
@@ -76,8 +80,9 @@ module _ {M : Type 0} (answer : M → Meaning) where
 
   abbrev pub acted : ℕ → ℕ → Act → Way M → Way M
   acted entry moment (Do gesture) way =
-      let section = section_at way.calls (slot_of gesture) in performed entry moment section (outcome_of gesture way.rects way.keys section) way
-  acted entry moment (See slot looks) way = with_found (unseen_from entry 0 looks.items (section_at way.calls slot)) way
+      let section = section_at way.calls (slot_of gesture) in performed entry moment section (outcome_of gesture way.rects way.keys way.pointer section) way
+  acted entry moment (See slot looks) way =
+      with_found (unseen_from (answer_to slot (held_after answer way.calls)) entry 0 looks.items (section_at way.calls slot)) way
 
   -- the moment of an entry is reached, and then what it says happens
   abbrev pub entered : ℕ → Entry → Way M → Way M
@@ -97,6 +102,7 @@ module _ {M : Type 0} (answer : M → Meaning) where
     pub held_is : held ≡ held_after answer way.calls
     pub rects_are : course.screen.rects.items ≡ way.rects
     pub keys_are : course.screen.keys ≡ way.keys
+    pub pointer_is : course.screen.pointer ≡ way.pointer
     pub events_are : course.events.items ≡ way.events
     pub found_are : map told course.findings.items ≡ way.found
 

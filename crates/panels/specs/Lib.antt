@@ -1,4 +1,5 @@
 -- What the contracts cite.
+pub mod Asked
 pub mod Beside
 pub mod Course
 pub mod Dues
@@ -7,6 +8,7 @@ pub mod Looks
 pub mod Panes
 pub mod Picture
 pub mod Played
+pub mod Refusals
 pub mod Shapes
 pub mod Typing
 pub mod Verdict

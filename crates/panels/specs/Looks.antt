@@ -1,4 +1,4 @@
--- Meaning. What a section tells, and what isn't as it has to be.
+-- Meaning. What a panel tells, and what isn't as it has to be.
 use Rattle.std.specs.Prelude.{ℕ, ◌+◌, Bool, true, false, not, ◌&&◌, ◌==◌, nat_le, nat_lt, min, if◌then◌else◌, List, [], ◌∷◌, length, codes, Option, Some, None, slice_get}
 use Rattle.std.specs.List.{list_any}
 use Rattle.std.specs.Str.{bytes_eq}
@@ -7,10 +7,11 @@ use Rattle.tk_base.specs.declared.rect.Rect.{Rect}
 use Rattle.panels.specs.declared.bench.Fact.{Fact}
 use Rattle.panels.specs.declared.bench.Fact.TheVariants.{There, Text, Class, Place, Mapped}
 use Rattle.panels.specs.declared.bench.Look.{Look}
-use Rattle.panels.specs.declared.bench.Look.TheVariants.{Window, Says, HasError, State, LeastSteps, Waiting}
+use Rattle.panels.specs.declared.bench.Look.TheVariants.{Asked, Window, Says, HasError, State, LeastSteps, Waiting}
 use Rattle.panels.specs.declared.finding.Finding.{Finding}
 use Rattle.panels.specs.declared.finding.Found.{Found}
 use Rattle.panels.specs.declared.finding.Found.TheVariants.{Unseen}
+use Rattle.panels.specs.Asked.{Told, is_alike, told_by}
 use Rattle.panels.specs.Panes.{index_of, is_mapped, windows_in}
 use Rattle.panels.specs.Words.{after, front, lines_with, number_at, word}
 
@@ -62,21 +63,30 @@ waiting_in section = min (length (lines_with (codes "timer") section) + length (
 abbrev pub head_of : List ℕ → List ℕ
 head_of section = front 10 section
 
-abbrev pub is_seen : Look → List ℕ → Bool
-is_seen (Window path fact) section = is_fact fact (window_line (string_bytes path) section)
-is_seen (Says text) section = is_told (string_bytes text) (lines_with (codes "out") section)
-is_seen (HasError wanted) section = is_same (nat_lt 0 (length (lines_with (codes "err") section))) wanted
-is_seen (State state) section = bytes_eq (word 2 (head_of section)) (string_bytes state)
-is_seen (LeastSteps least) section = nat_le least (number_at 3 (head_of section))
-is_seen (Waiting wanted) section = waiting_in section == wanted
+-- whether a panel with this section tells what it is to, where it answers this to the look
+abbrev pub is_seen : Look → Told → List ℕ → Bool
+is_seen (Asked question wanted) answer section = is_alike (told_by wanted) answer
+is_seen (Window path fact) answer section = is_fact fact (window_line (string_bytes path) section)
+is_seen (Says text) answer section = is_told (string_bytes text) (lines_with (codes "out") section)
+is_seen (HasError wanted) answer section = is_same (nat_lt 0 (length (lines_with (codes "err") section))) wanted
+is_seen (State state) answer section = bytes_eq (word 2 (head_of section)) (string_bytes state)
+is_seen (LeastSteps least) answer section = nat_le least (number_at 3 (head_of section))
+is_seen (Waiting wanted) answer section = waiting_in section == wanted
 
--- what is told of a finding: its entry, what it is, and the section at that moment
-abbrev pub told : Finding → ℕ × Found × List ℕ
-told finding = (finding.entry, finding.found, finding.section.items)
+-- what is told of a finding: its entry, what it is, and the panel's section and its answer at that moment
+pub record ToldFinding : Type 0 where
+  pub entry : ℕ
+  pub found : Found
+  pub section : List ℕ
+  pub answer : Told
 
--- the looks from a number on that a section doesn't tell
-abbrev pub unseen_from : ℕ → ℕ → List Look → List ℕ → List (ℕ × Found × List ℕ)
-unseen_from entry number [] section = []
-unseen_from entry number (look ∷ looks) section =
-    if is_seen look section then unseen_from entry (number + 1) looks section
-    else (entry, Unseen number, section) ∷ unseen_from entry (number + 1) looks section
+abbrev pub told : Finding → ToldFinding
+told finding = record { entry = finding.entry; found = finding.found; section = finding.section.items; answer = told_by finding.answer }
+
+module _ (answer_to : Look → Told) where
+  -- the looks from a number on that a panel with this section doesn't tell, which answers so
+  abbrev pub unseen_from : ℕ → ℕ → List Look → List ℕ → List ToldFinding
+  unseen_from entry number [] section = []
+  unseen_from entry number (look ∷ looks) section =
+      if is_seen look (answer_to look) section then unseen_from entry (number + 1) looks section
+      else record { entry = entry; found = Unseen number; section = section; answer = answer_to look } ∷ unseen_from entry (number + 1) looks section

@@ -69,9 +69,16 @@ edge class first second shape =
     start class shape ++ first ∷ decimal (corner first shape) ++ second ∷ decimal (corner second shape) ++ codes "\"/>"
 
 -- a window's picture is what is shown of it ..
-abbrev pub window_open : Shape → List ℕ
-window_open shape =
-    codes "<svg" ++ box shape.left shape.top (shape.right - shape.left) (shape.bottom - shape.top) ++ codes " class=\"" ++ escaped shape.class.items ++ 34 ∷ []
+abbrev pub window_part : Shape → List ℕ
+window_part shape = codes "<svg" ++ box shape.left shape.top (shape.right - shape.left) (shape.bottom - shape.top)
+
+-- .. with its class, the words behind that, and a style of its own ..
+abbrev pub window_look : DrawnWindow → List ℕ
+window_look window =
+    codes " class=\"" ++ escaped window.shape.class.items ++ escaped window.marks.items ++ codes "\" style=\"" ++ escaped window.style.items ++ 34 ∷ []
+
+abbrev pub window_open : DrawnWindow → List ℕ
+window_open window = window_part window.shape ++ window_look window
 
 -- .. and views that part of the panel
 abbrev pub view_box : Shape → List ℕ
@@ -95,7 +102,7 @@ abbrev pub content : DrawnWindow → List ℕ
 content window = rows_text (row_left window.shape) (first_row window.shape (length window.rows.items)) window.rows.items ++ codes "</svg>\n"
 
 unfoldable pub window_shown : DrawnWindow → List ℕ
-window_shown window = window_open window.shape ++ view_box window.shape ++ window_ground window.shape ++ edges window.shape ++ content window
+window_shown window = window_open window ++ view_box window.shape ++ window_ground window.shape ++ edges window.shape ++ content window
 
 abbrev pub window_text : DrawnWindow → List ℕ
 window_text window = if is_hidden window.shape then [] else window_shown window

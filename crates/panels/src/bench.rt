@@ -1,5 +1,6 @@
 //! What a bench says: the panels are applications of a session, with slots from 0 on in their order.
 
+use tcl_text::Text;
 use tk_base::Rect;
 use tk_session::{AppBlock, HostLine};
 
@@ -31,6 +32,8 @@ pub enum Touch {
 #[derive(Drop)]
 pub struct Pointing {
     pub target: Target,
+    /// How many moves bring the pointer there from where it was, each its share of what is left of the way; 0 is as 1, which comes there at once.
+    pub moves: u32,
     pub touch: Touch,
     /// The button, from 1 to 5.
     pub button: u32,
@@ -61,9 +64,42 @@ pub enum Fact {
     Mapped(bool),
 }
 
-/// What a section is to tell.
+/// What is asked of a panel that its section doesn't tell. Windows are told by their paths.
+#[derive(Drop)]
+pub enum Question {
+    /// The value of an option of a window, by a word that means it (`cget` of options(n)).
+    Option { window: String, name: Text },
+    /// What a window tells as its value: the text that it shows, or the list of a listbox's items.
+    Value(String),
+    /// The rows of a listbox that are selected, from 0 on (`curselection` of listbox(n)).
+    Selection(String),
+    /// The active row of a listbox, from 0 on.
+    Active(String),
+    /// How many characters stand before the cursor of an entry.
+    Cursor(String),
+    /// The path of the window that gets the events of keys while the panel has the keyboard.
+    Focus,
+    /// The title of the main window.
+    Title,
+    /// The text of a global variable, or of the element of an array by `array(index)`.
+    Variable(Text),
+}
+
+/// What is answered.
+#[derive(Drop)]
+pub enum Answer {
+    /// There is no such window, option or variable, or no such thing of a window of its class.
+    Nothing,
+    Text(Text),
+    Number(usize),
+    Rows(Vec<usize>),
+}
+
+/// What a section is to tell, or what is to be answered.
 #[derive(Drop)]
 pub enum Look {
+    /// The panel answers this.
+    Asked { question: Question, wanted: Answer },
     Window { path: String, fact: Fact },
     /// A line of the transcript has this text behind its moment.
     Says(String),

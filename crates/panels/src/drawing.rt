@@ -2,7 +2,7 @@
 
 ghost use Rattle.std.specs.Prelude.{◌≡◌, ◌++◌, ◌∷◌, option_map, IfOk, OnOk};
 ghost use Rattle.std.specs.Fmt.{decimal};
-ghost use Rattle.panels.specs.Picture.{attribute, box, content, corner, edge, edges, escape_of, escaped, escaped_byte, first_row, is_centered, is_hidden, panel_body, panel_class, panel_place, panel_text, panel_title, panels_text, picture, pointer_text, row_left, row_text, rows_text, start, view_box, window_ground, window_open, window_shown, window_text, windows_text};
+ghost use Rattle.panels.specs.Picture.{attribute, box, content, corner, edge, edges, escape_of, escaped, escaped_byte, first_row, is_centered, is_hidden, panel_body, panel_class, panel_place, panel_text, panel_title, panels_text, picture, pointer_text, row_left, row_text, rows_text, start, view_box, window_ground, window_look, window_open, window_part, window_shown, window_text, windows_text};
 
 use crate::shape::Shape;
 use itoa::Buffer;
@@ -14,6 +14,10 @@ use tk_base::Rect;
 pub struct DrawnWindow {
     pub shape: Shape,
     pub rows: Vec<Vec<u8>>,
+    /// Words behind its class, by which a style may tell it: a blank stands before each.
+    pub marks: Vec<u8>,
+    /// A style of its own.
+    pub style: Vec<u8>,
 }
 
 /// A panel.
@@ -202,17 +206,34 @@ fn push_edge(
     text.extend_from_slice(b"\"/>")
 }
 
-/// Adds the beginning of a window's picture, which is what is shown of it.
-fn push_open(text: &mut Vec<u8>, shape: &Shape) -> Result<(), AllocError>
-    ensures { OnOk result (text.new.items ≡ text.old.items ++ window_open shape.now) }
+/// Adds the part of its panel that is shown of a window.
+fn push_part(text: &mut Vec<u8>, shape: &Shape) -> Result<(), AllocError>
+    ensures { OnOk result (text.new.items ≡ text.old.items ++ window_part shape.now) }
 {
     let width = shape.right.saturating_sub(shape.left);
     let height = shape.bottom.saturating_sub(shape.top);
     text.extend_from_slice(b"<svg")?;
-    push_box(text, shape.left, shape.top, width, height)?;
+    push_box(text, shape.left, shape.top, width, height)
+}
+
+/// Adds how a window looks: its class, and its own style.
+fn push_look(text: &mut Vec<u8>, window: &DrawnWindow) -> Result<(), AllocError>
+    ensures { OnOk result (text.new.items ≡ text.old.items ++ window_look window.now) }
+{
     text.extend_from_slice(b" class=\"")?;
-    push_escaped(text, shape.class.as_slice())?;
+    push_escaped(text, window.shape.class.as_slice())?;
+    push_escaped(text, window.marks.as_slice())?;
+    text.extend_from_slice(b"\" style=\"")?;
+    push_escaped(text, window.style.as_slice())?;
     Ok(text.push(b'"')?)
+}
+
+/// Adds the beginning of a window's picture, which is what is shown of it.
+fn push_open(text: &mut Vec<u8>, window: &DrawnWindow) -> Result<(), AllocError>
+    ensures { OnOk result (text.new.items ≡ text.old.items ++ window_open window.now) }
+{
+    push_part(text, &window.shape)?;
+    push_look(text, window)
 }
 
 /// Adds the part of the panel that a window's picture views.
@@ -273,7 +294,7 @@ fn push_shown(text: &mut Vec<u8>, window: &DrawnWindow) -> Result<(), AllocError
     ensures { OnOk result (text.new.items ≡ text.old.items ++ window_shown window.now) }
 {
     let shape = &window.shape;
-    push_open(text, shape)?;
+    push_open(text, window)?;
     push_view(text, shape)?;
     push_ground(text, shape)?;
     push_edges(text, shape)?;

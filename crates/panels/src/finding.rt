@@ -1,5 +1,6 @@
 //! What isn't as it has to be.
 
+use crate::bench::Answer;
 use crate::pane::Miss;
 
 /// What isn't as it has to be in an entry.
@@ -18,4 +19,6 @@ pub struct Finding {
     pub found: Found,
     /// The section of the panel at that moment.
     pub section: Vec<u8>,
+    /// What it answered then; nothing where nothing was asked.
+    pub answer: Answer,
 }

@@ -1,7 +1,7 @@
 //! What a person does, as lines of a session.
 
-ghost use Rattle.std.specs.Prelude.{◌≡◌, ◌+◌, ◌++◌, min, IfOk, OnOk};
-ghost use Rattle.panels.specs.Gestures.{focusing, moving, outcome_at, outcome_of, pointed, rect_at, told_by, touched};
+ghost use Rattle.std.specs.Prelude.{◌≡◌, ◌≤◌, ◌+◌, ◌++◌, min, IfOk, OnOk};
+ghost use Rattle.panels.specs.Gestures.{came, focusing, moved, nearer, outcome_at, outcome_of, passing, placed, pointed, rect_at, told_by, touched, way_to};
 ghost use Rattle.panels.specs.Panes.{windows_in};
 ghost use Rattle.tk_route.specs.Lines.{focus_by, rects_by};
 
@@ -19,11 +19,19 @@ pub(crate) enum Outcome {
     Missed(Miss),
 }
 
-/// What is known of the screen: the panels' rectangles by their slots, and which panel has the keyboard.
+/// A place of the pointer, in pixels from the screen's upper left corner.
+#[derive(Clone, Copy)]
+pub(crate) struct Spot {
+    pub x: u32,
+    pub y: u32,
+}
+
+/// What is known of the screen: the panels' rectangles by their slots, which panel has the keyboard, and where the pointer is, if it has come somewhere.
 #[derive(Drop)]
 pub(crate) struct Screen {
     pub rects: Vec<Rect>,
     pub keys: Option<usize>,
+    pub pointer: Option<Spot>,
 }
 
 impl Screen {
@@ -31,19 +39,18 @@ impl Screen {
     pub(crate) fn take(&mut self, line: HostLine)
         ensures rects { self.new.rects.items ≡ rects_by line self.old.rects.items }
         ensures keys { self.new.keys ≡ focus_by line self.old.keys }
+        ensures pointer { self.new.pointer ≡ came line self.old.pointer }
     {
         match line {
+            HostLine::Move { x, y } => self.pointer = Some(Spot { x, y }),
             HostLine::Focus(slot) => self.keys = slot,
             HostLine::Rect { slot, rect } => {
                 if slot < self.rects.len() {
                     self.rects[slot] = rect;
                 }
             }
-            HostLine::Move { .. }
-            | HostLine::Press(_)
-            | HostLine::Release(_)
-            | HostLine::Keydown(_)
-            | HostLine::Keyup(_) => {}
+            HostLine::Press(_) | HostLine::Release(_) | HostLine::Keydown(_) | HostLine::Keyup(_) =>
+                {}
         }
     }
 }
@@ -70,14 +77,73 @@ fn place(corner: u32, inside: u64) -> u32
     u64::from(corner).saturating_add(inside).min(65_535) as u32
 }
 
-/// The line that moves the pointer to a point of a panel.
-fn moving(rect: Rect, point: Point) -> HostLine
-    ensures { result ≡ moving rect point }
+/// A point of a panel on the screen.
+fn placed(rect: Rect, point: Point) -> Spot
+    ensures { result ≡ placed rect point }
 {
-    HostLine::Move {
+    Spot {
         x: place(rect.x, point.x),
         y: place(rect.y, point.y),
     }
+}
+
+/// The line that moves the pointer to a place.
+fn moved(spot: Spot) -> HostLine
+    ensures { result ≡ moved spot }
+{
+    HostLine::Move {
+        x: spot.x,
+        y: spot.y,
+    }
+}
+
+/// Where a move comes from one place on the way to another, where so many are left with it.
+fn nearer(from: u32, to: u32, left: u32) -> u32
+    requires { 1 ≤ left }
+    ensures { result ≡ nearer from to left }
+{
+    if from <= to {
+        from + (to - from) / left
+    } else {
+        from - (from - to) / left
+    }
+}
+
+/// Adds the moves from one place to another but the last, where there are so many with it.
+fn push_passing(
+    lines: &mut Vec<HostLine>,
+    from: Spot,
+    to: Spot,
+    moves: u32,
+) -> Result<(), AllocError>
+    ensures { OnOk result (lines.new.items ≡ lines.old.items ++ passing from to moves) }
+{
+    let mut spot = from;
+    let mut left = moves;
+    while left > 1 {
+        spot = Spot {
+            x: nearer(spot.x, to.x, left),
+            y: nearer(spot.y, to.y, left),
+        };
+        lines.push(moved(spot))?;
+        left -= 1;
+    }
+    Ok(())
+}
+
+/// Adds the moves that bring the pointer to a place, from where it is.
+fn push_way(
+    lines: &mut Vec<HostLine>,
+    pointer: Option<Spot>,
+    to: Spot,
+    moves: u32,
+) -> Result<(), AllocError>
+    ensures { OnOk result (lines.new.items ≡ lines.old.items ++ way_to to moves pointer) }
+{
+    if let Some(from) = pointer {
+        push_passing(lines, from, to, moves)?;
+    }
+    Ok(lines.push(moved(to))?)
 }
 
 /// What a button does at a place that the pointer has come to.
@@ -123,11 +189,12 @@ fn pointed(
     screen: &Screen,
     point: Point,
 ) -> Result<Vec<HostLine>, AllocError>
-    ensures { IfOk result (λ lines. lines.items ≡ pointed pointing.now screen.now.rects.items screen.now.keys point) }
+    ensures { IfOk result (λ lines. lines.items ≡ pointed pointing.now screen.now.rects.items screen.now.keys screen.now.pointer point) }
 {
     let slot = pointing.target.slot;
     let mut lines = Vec::new(alloc);
-    lines.push(moving(rect_at(screen.rects.as_slice(), slot), point))?;
+    let spot = placed(rect_at(screen.rects.as_slice(), slot), point);
+    push_way(&mut lines, screen.pointer, spot, pointing.moves)?;
     push_focus(&mut lines, pointing.takes_keys, slot, screen.keys)?;
     push_touch(&mut lines, pointing.touch, pointing.button)?;
     Ok(lines)
@@ -140,7 +207,7 @@ fn pointer_outcome(
     screen: &Screen,
     section: &[u8],
 ) -> Result<Outcome, AllocError>
-    ensures { IfOk result (λ outcome. told_by outcome ≡ outcome_at pointing.now screen.now.rects.items screen.now.keys (windows_in section.now)) }
+    ensures { IfOk result (λ outcome. told_by outcome ≡ outcome_at pointing.now screen.now.rects.items screen.now.keys screen.now.pointer (windows_in section.now)) }
 {
     let windows = lines_with(alloc, section, b"win")?;
     match landing_at(alloc, &pointing.target, windows.as_slice())? {
@@ -156,7 +223,7 @@ pub(crate) fn outcome_of(
     screen: &Screen,
     section: &[u8],
 ) -> Result<Outcome, AllocError>
-    ensures { IfOk result (λ outcome. told_by outcome ≡ outcome_of gesture.now screen.now.rects.items screen.now.keys section.now) }
+    ensures { IfOk result (λ outcome. told_by outcome ≡ outcome_of gesture.now screen.now.rects.items screen.now.keys screen.now.pointer section.now) }
 {
     match gesture {
         Gesture::Pointer(pointing) => pointer_outcome(alloc, pointing, screen, section),

@@ -1,6 +1,7 @@
 //! Benches: panels of several authors, what a person does with them, and what they have to show.
 #![tactic(auto)]
 
+mod asking;
 mod bench;
 mod course;
 mod drawing;
@@ -18,7 +19,9 @@ mod typing;
 mod verdict;
 mod words;
 
-pub use bench::{Act, Bench, Entry, Fact, Gesture, Look, Pointing, Target, Touch};
+pub use bench::{
+    Act, Answer, Bench, Entry, Fact, Gesture, Look, Pointing, Question, Target, Touch,
+};
 pub use drawing::{DrawnPanel, DrawnWindow, Scene, picture};
 pub use dues::next_due;
 pub use finding::{Finding, Found};

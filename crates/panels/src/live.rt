@@ -9,8 +9,10 @@ ghost use Rattle.tk_host.specs.Sections.{sections_after};
 ghost use Rattle.tkhost.specs.Calls.{adding};
 ghost use Rattle.tkhost.specs.Play.{MakesServices, Serve, services_in};
 
+use crate::asking::asked;
+use crate::bench::{Answer, Question};
 use crate::playing::{BenchFault, started};
-use std::alloc::Global;
+use std::alloc::{AllocError, Global};
 use std::marker::Model;
 use tcl_text::Text;
 use tk_alias::Service;
@@ -39,6 +41,7 @@ impl<M: AliasService> Live<M> {
     ghost use Rattle.std.specs.Prelude.{◌≡◌, ◌∷◌, ◌++◌, [], List, slice_get, Some, IfOk, IfErr, OnOk};
     ghost use Rattle.tk_host.specs.Held.{AdvanceTo, Call, LineAt, held_after};
     ghost use Rattle.tk_host.specs.Refusals.{LeftBy};
+    ghost use Rattle.panels.specs.Asked.{asked, told_by};
     ghost use Rattle.tk_host.specs.Sections.{sections_after};
 
     /// A line at its moment, in milliseconds: the panels come to the moment and do what is due on the way, and then what the line gives them. Refused as
@@ -66,6 +69,13 @@ impl<M: AliasService> Live<M> {
             IfOk result (λ bytes. slice_get (sections_after M.answer calls) slot ≡ Some bytes.items) }
     {
         self.host.section(slot)
+    }
+
+    /// What the panel in a slot answers to a question, by its application's record. An error where memory is refused.
+    pub fn ask(&self, alloc: Global, slot: usize, question: &Question) -> Result<Answer, AllocError>
+        ensures { IfOk result (λ answer. told_by answer ≡ asked slot self.now.held question.now) }
+    {
+        asked(alloc, &self.host, slot, question)
     }
 
     /// The turns that took steps in the last call that wasn't refused, one after another. It takes no memory.

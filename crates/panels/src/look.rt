@@ -4,15 +4,18 @@ ghost use Rattle.std.specs.Prelude.{◌≡◌, ◌++◌, ℕ, List, map, option_
 ghost use Rattle.std.specs.Borrow.{Bor};
 ghost use Rattle.std.specs.List.{list_any};
 ghost use Rattle.std.specs.Str.{bytes_eq};
+ghost use Rattle.panels.specs.Asked.{answer_to, told_by};
 ghost use Rattle.panels.specs.Words.{after};
 ghost use Rattle.panels.specs.Looks.{head_of, is_fact, is_place, is_seen, is_told, told, unseen_from, waiting_in, window_line};
 
-use crate::bench::{Fact, Look};
+use crate::asking::{answer_to, is_alike};
+use crate::bench::{Answer, Fact, Look};
 use crate::finding::{Finding, Found};
 use crate::pane::index_of;
 use crate::words::{after, front, lines_with, number_at, word};
 use std::alloc::{AllocError, Global};
 use tk_base::Rect;
+use tk_host::{AliasService, Host};
 
 /// Whether the line of a window tells this place.
 fn is_place(place: Rect, line: &[u8]) -> bool
@@ -78,11 +81,15 @@ fn waiting_in(alloc: Global, section: &[u8]) -> Result<u64, AllocError>
     Ok((timers.len() as u64).saturating_add(idles.len() as u64))
 }
 
-/// Whether a section tells what it is to.
-fn is_seen(alloc: Global, look: &Look, section: &[u8]) -> Result<bool, AllocError>
-    ensures { IfOk result (λ seen. seen ≡ is_seen look.now section.now) }
+/// Whether a panel with this section tells what it is to, where it answers this to the look.
+fn is_seen(alloc: Global, look: &Look, answer: &Answer, section: &[u8]) -> Result<bool, AllocError>
+    ensures { IfOk result (λ seen. seen ≡ is_seen look.now (told_by answer.now) section.now) }
 {
     match look {
+        Look::Asked {
+            question: _,
+            wanted,
+        } => Ok(is_alike(wanted, answer)),
         Look::Window { path, fact } => {
             let line = window_line(alloc, path.as_str(), section)?;
             Ok(is_fact(fact, line))
@@ -101,22 +108,26 @@ fn is_seen(alloc: Global, look: &Look, section: &[u8]) -> Result<bool, AllocErro
     }
 }
 
-/// Adds a finding for each of the looks that a section doesn't tell.
-pub(crate) fn push_unseen(
+/// Adds a finding for each of the looks that the panel in a slot, which has this section, doesn't tell.
+pub(crate) fn push_unseen<M: AliasService>(
     alloc: Global,
+    host: &Host<M>,
+    slot: usize,
     entry: usize,
     looks: &[Look],
     section: &[u8],
     findings: &mut Vec<Finding>,
 ) -> Result<(), AllocError>
-    ensures { OnOk result (map told findings.new.items ≡ map told findings.old.items ++ unseen_from entry 0 looks.now section.now) }
+    ensures { OnOk result (map told findings.new.items ≡ map told findings.old.items ++ unseen_from (answer_to slot host.now.held) entry 0 looks.now section.now) }
 {
     for (number, look) in looks.iter().enumerate() {
-        if !is_seen(alloc, look, section)? {
+        let answer = answer_to(alloc, host, slot, look)?;
+        if !is_seen(alloc, look, &answer, section)? {
             findings.push(Finding {
                 entry,
                 found: Found::Unseen(number),
                 section: Vec::from_slice(alloc, section)?,
+                answer,
             })?;
         }
     }

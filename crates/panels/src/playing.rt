@@ -1,22 +1,25 @@
 //! A bench becomes a session, which is played.
 
-ghost use Rattle.std.specs.Prelude.{◌≡◌, ◌≢◌, ◌≤◌, ◌∷◌, ◌++◌, [], ℕ, List, map, IfOk, OnOk};
+ghost use Rattle.std.specs.Prelude.{◌≡◌, ◌≢◌, ◌≤◌, ◌∷◌, ◌++◌, [], ℕ, List, map, IfOk, IfErr, OnOk};
 ghost use Rattle.tk_host.specs.declared.phase.Phase.{Phase};
 ghost use Rattle.tk_session.specs.Session.{IsSession};
 ghost use Rattle.tkhost.specs.Play.{MakesServices, program_sections};
-ghost use Rattle.tk_host.specs.Held.{AddApp, Call, Start, held_after};
-ghost use Rattle.tk_session.specs.Session.{AreAllowed, rects_of};
+ghost use Rattle.tk_host.specs.Held.{Call, Start, held_after};
+ghost use Rattle.tk_host.specs.Refusals.{RefusesLine, line_faults};
+ghost use Rattle.tk_route.specs.Refusals.{IsFirst, NoneApplies};
+ghost use Rattle.tk_session.specs.Session.{rects_of};
 ghost use Rattle.tk_alias.specs.Services.{answer_of};
 ghost use Rattle.tk_alias.specs.declared.service.Service.{Service};
-ghost use Rattle.tkhost.specs.Calls.{adding, given_of};
+ghost use Rattle.tkhost.specs.Calls.{adding};
 ghost use Rattle.tkhost.specs.Play.{Serve, services_in};
 ghost use Rattle.panels.specs.Course.{Ends, IsAt, Way, acted, advanced, begun, course_of, entered, handed, handed_all, performed, section_at, slot_of, went};
 ghost use Rattle.panels.specs.Gestures.{outcome_of};
 ghost use Rattle.panels.specs.Looks.{told};
 ghost use Rattle.panels.specs.Played.{plan_of};
+ghost use Rattle.panels.specs.Refusals.{IsRefused, IsSayable, OfEntry, RefusedAmong, RefusesAct, RefusesEntry, RefusesLines, TakesAct, TakesAll, TakesEntry, TakesLines, UnsaidBy, fault_in};
 ghost use Rattle.panels.specs.Verdict.{sections_in};
 
-use crate::bench::{Act, Bench, Entry, Gesture};
+use crate::bench::{Act, Answer, Bench, Entry, Gesture};
 use crate::course::Course;
 use crate::finding::{Finding, Found};
 use crate::gesture::{Outcome, Screen, outcome_of};
@@ -29,7 +32,7 @@ use tk_host::{AliasCode, AliasService, Aliases, Host, HostFault};
 use tk_session::{
     AppBlock, EventLine, HostLine, LineFault, ServiceKind, Session, WritingFault, write_session,
 };
-use tkhost::{PlayFault, services_of};
+use tkhost::{PlayFault, filled, services_of};
 
 /// Why a bench isn't played to its end.
 #[derive(Drop)]
@@ -49,6 +52,18 @@ impl From<AllocError> for BenchFault {
     ghost from_gives = { λ _ e. e ≡ NoMemory };
 
     fn from(_refused: AllocError) -> BenchFault {
+        BenchFault::NoMemory
+    }
+}
+
+impl From<PlayFault> for BenchFault {
+    ghost use Rattle.std.specs.Prelude.{◌≡◌};
+    ghost use Rattle.panels.specs.declared.playing.BenchFault.TheVariants.{NoMemory};
+
+    ghost from_gives = { λ _ e. e ≡ NoMemory };
+
+    /// A text in memory takes all that is written to it.
+    fn from(_refused: PlayFault) -> BenchFault {
         BenchFault::NoMemory
     }
 }
@@ -80,26 +95,28 @@ pub struct Played {
 }
 
 /// What the host refuses in an entry.
-pub(crate) fn refused(entry: usize, fault: HostFault) -> BenchFault {
+fn refused(entry: usize, fault: HostFault) -> BenchFault
+    ensures { result ≡ fault_in entry fault }
+{
     match fault {
         HostFault::NoMemory => BenchFault::NoMemory,
         HostFault::Refused(fault) => BenchFault::Refused { entry, fault },
     }
 }
 
-/// The section of the panel in a slot; nothing where the slot has none.
+/// The section of the panel in a slot; nothing where the slot has none. Else a host refuses it only once memory was refused.
 fn section_at<M: AliasService>(
     alloc: Global,
     host: &Host<M>,
-    entry: usize,
     slot: usize,
 ) -> Result<Vec<u8>, BenchFault>
-    ensures { (calls : List (Call M)) → host.now.held ≡ held_after M.answer calls → IfOk result (λ section. section.items ≡ section_at M.answer calls slot) }
+    ensures memory { IfErr result (λ fault. fault ≡ BenchFault.NoMemory) }
+    ensures section { (calls : List (Call M)) → host.now.held ≡ held_after M.answer calls → IfOk result (λ section. section.items ≡ section_at M.answer calls slot) }
 {
     match host.section(slot) {
         Ok(section) => Ok(section),
         Err(HostFault::Refused(LineFault::NoApp)) => Ok(Vec::new(alloc)),
-        Err(fault) => Err(refused(entry, fault)),
+        Err(_) => Err(BenchFault::NoMemory),
     }
 }
 
@@ -113,6 +130,8 @@ fn hand<M: AliasService>(
     requires begun { host.old.held.phase ≢ Phase.Adding }
     ensures begun { OnOk result (host.new.held.phase ≢ Phase.Adding) }
     ensures course { (way : Way M) → IsAt M.answer way host.old.held course.old → OnOk result (IsAt M.answer (handed event way) host.new.held course.new) }
+    ensures taken { OnOk result (NoneApplies (RefusesLine host.old.held event.moment event.line) line_faults) }
+    ensures refused { IfErr result (OfEntry (IsFirst (RefusesLine host.old.held event.moment event.line) line_faults) entry) }
 {
     if let Err(fault) = host.line(event.moment, event.line) {
         return Err(refused(entry, fault));
@@ -132,6 +151,8 @@ fn hand_all<M: AliasService>(
     requires begun { host.old.held.phase ≢ Phase.Adding }
     ensures begun { OnOk result (host.new.held.phase ≢ Phase.Adding) }
     ensures course { (way : Way M) → IsAt M.answer way host.old.held course.old → OnOk result (IsAt M.answer (handed_all moment lines.now way) host.new.held course.new) }
+    ensures taken { (way : Way M) → IsAt M.answer way host.old.held course.old → OnOk result (TakesLines M.answer moment lines.now way) }
+    ensures refused { (way : Way M) → IsAt M.answer way host.old.held course.old → IfErr result (OfEntry (RefusesLines M.answer moment lines.now way) entry) }
 {
     for line in lines {
         let event = EventLine {
@@ -164,9 +185,11 @@ fn perform<M: AliasService>(
 ) -> Result<(), BenchFault>
     requires begun { host.old.held.phase ≢ Phase.Adding }
     ensures begun { OnOk result (host.new.held.phase ≢ Phase.Adding) }
-    ensures course { (way : Way M) → IsAt M.answer way host.old.held course.old → OnOk result (IsAt M.answer (let section = section_at M.answer way.calls (slot_of gesture.now) in performed entry moment section (outcome_of gesture.now way.rects way.keys section) way) host.new.held course.new) }
+    ensures course { (way : Way M) → IsAt M.answer way host.old.held course.old → OnOk result (IsAt M.answer (let section = section_at M.answer way.calls (slot_of gesture.now) in performed entry moment section (outcome_of gesture.now way.rects way.keys way.pointer section) way) host.new.held course.new) }
+    ensures taken { (way : Way M) → IsAt M.answer way host.old.held course.old → OnOk result (TakesAct M.answer moment (Act.Do gesture.now) way) }
+    ensures refused { (way : Way M) → IsAt M.answer way host.old.held course.old → IfErr result (OfEntry (RefusesAct M.answer moment (Act.Do gesture.now) way) entry) }
 {
-    let section = section_at(alloc, host, entry, slot_of(gesture))?;
+    let section = section_at(alloc, host, slot_of(gesture))?;
     match outcome_of(alloc, gesture, &course.screen, section.as_slice())? {
         Outcome::Lines(lines) => hand_all(host, course, entry, moment, lines.as_slice()),
         Outcome::Missed(miss) => Ok(
@@ -174,6 +197,7 @@ fn perform<M: AliasService>(
                 entry,
                 found: Found::Missed(miss),
                 section,
+                answer: Answer::Nothing,
             })?,
         ),
     }
@@ -190,6 +214,8 @@ fn enter<M: AliasService>(
     requires begun { host.old.held.phase ≢ Phase.Adding }
     ensures begun { OnOk result (host.new.held.phase ≢ Phase.Adding) }
     ensures course { (way : Way M) → IsAt M.answer way host.old.held course.old → OnOk result (IsAt M.answer (entered M.answer number entry.now way) host.new.held course.new) }
+    ensures taken { (way : Way M) → IsAt M.answer way host.old.held course.old → OnOk result (TakesEntry M.answer entry.now way) }
+    ensures refused { (way : Way M) → IsAt M.answer way host.old.held course.old → IfErr result (OfEntry (RefusesEntry M.answer entry.now way) number) }
 {
     if let Err(fault) = host.advance_to(entry.moment) {
         return Err(refused(number, fault));
@@ -197,10 +223,12 @@ fn enter<M: AliasService>(
     match &entry.act {
         Act::Do(gesture) => perform(alloc, host, course, number, entry.moment, gesture),
         Act::See { slot, looks } => {
-            let section = section_at(alloc, host, number, *slot)?;
+            let section = section_at(alloc, host, *slot)?;
             let findings = &mut course.findings;
             Ok(push_unseen(
                 alloc,
+                host,
+                *slot,
                 number,
                 looks.as_slice(),
                 section.as_slice(),
@@ -211,7 +239,7 @@ fn enter<M: AliasService>(
 }
 
 /// Goes through the entries of a bench.
-pub(crate) fn go_through<M: AliasService>(
+fn go_through<M: AliasService>(
     alloc: Global,
     host: &mut Host<M>,
     course: &mut Course,
@@ -220,47 +248,11 @@ pub(crate) fn go_through<M: AliasService>(
     requires begun { host.old.held.phase ≢ Phase.Adding }
     ensures begun { OnOk result (host.new.held.phase ≢ Phase.Adding) }
     ensures course { (way : Way M) → IsAt M.answer way host.old.held course.old → OnOk result (IsAt M.answer (went M.answer 0 entries.now way) host.new.held course.new) }
+    ensures taken { (way : Way M) → IsAt M.answer way host.old.held course.old → OnOk result (TakesAll M.answer 0 entries.now way) }
+    ensures refused { (way : Way M) → IsAt M.answer way host.old.held course.old → IfErr result (RefusedAmong M.answer 0 entries.now way) }
 {
     for (number, entry) in entries.iter().enumerate() {
         enter(alloc, host, course, number, entry)?;
-    }
-    Ok(())
-}
-
-/// Adds a panel.
-fn add<M: AliasService>(
-    host: &mut Host<M>,
-    panel: &AppBlock,
-    aliases: Aliases<M>,
-) -> Result<(), BenchFault>
-    ensures history { (calls : List (Call M)) → host.old.held ≡ held_after M.answer calls
-        → OnOk result (host.new.held ≡ held_after M.answer (calls ++ AddApp (given_of panel.now aliases) ∷ [])) }
-{
-    let name = panel.name.copy()?;
-    let script = panel.script.copy()?;
-    match host.add_app(name, panel.rect, script, panel.budget, aliases) {
-        Ok(()) => Ok(()),
-        Err(fault) => Err(refused(0, fault)),
-    }
-}
-
-/// Adds panels that may stand side by side, each with its aliases.
-fn add_all<M: AliasService>(
-    host: &mut Host<M>,
-    panels: &[AppBlock],
-    aliases: Vec<Aliases<M>>,
-) -> Result<(), BenchFault>
-    requires empty { host.old.held ≡ held_after M.answer [] }
-    requires allowed { AreAllowed [] panels.now }
-    requires serve { Serve panels.now aliases.items }
-    ensures added { OnOk result (host.new.held ≡ held_after M.answer (adding panels.now aliases.items)) }
-{
-    let mut lists = aliases.into_iter();
-    for panel in panels {
-        let Some(list) = lists.next() else {
-            unreachable!();
-        };
-        add(host, panel, list)?;
     }
     Ok(())
 }
@@ -276,12 +268,13 @@ pub(crate) fn started<M: AliasService>(
     requires serve { Serve session.now.apps aliases.items }
     ensures begun { IfOk result (λ host. host.held.phase ≢ Phase.Adding) }
     ensures host { IfOk result (λ host. host.held ≡ held_after M.answer (adding session.now.apps aliases.items ++ Start ∷ [])) }
+    ensures memory { IfErr result (λ fault. fault ≡ BenchFault.NoMemory) }
 {
-    let mut host = Host::new(alloc, slice)?;
-    add_all(&mut host, session.apps(), aliases)?;
+    let mut host = filled(alloc, session, aliases, slice)?;
     match host.start() {
         Ok(()) => Ok(host),
-        Err(fault) => Err(refused(0, fault)),
+        // before it has started a host refuses its start for nothing else
+        Err(_) => Err(BenchFault::NoMemory),
     }
 }
 
@@ -306,12 +299,15 @@ fn course_of<M: AliasService>(
 ) -> Result<Course, BenchFault>
     requires slice { 1 ≤ slice }
     requires serve { Serve session.now.apps aliases.items }
-    ensures { IfOk result (λ course. Ends (went M.answer 0 bench.now.entries.items (begun session.now.apps aliases.items)) course) }
+    ensures ends { IfOk result (λ course. Ends (went M.answer 0 bench.now.entries.items (begun session.now.apps aliases.items)) course) }
+    ensures taken { OnOk result (TakesAll M.answer 0 bench.now.entries.items (begun session.now.apps aliases.items)) }
+    ensures refused { IfErr result (RefusedAmong M.answer 0 bench.now.entries.items (begun session.now.apps aliases.items)) }
 {
     let mut course = Course {
         screen: Screen {
             rects: rects_of(alloc, session.apps())?,
             keys: None,
+            pointer: None,
         },
         events: Vec::new(alloc),
         findings: Vec::new(alloc),
@@ -322,6 +318,7 @@ fn course_of<M: AliasService>(
 }
 
 /// The session of a bench whose gestures became these lines, with its text.
+#[tactic(auto, using(crate::proofs::Refused::unsaid))]
 pub(crate) fn written(
     alloc: Global,
     bench: &Bench,
@@ -329,6 +326,8 @@ pub(crate) fn written(
 ) -> Result<(Vec<u8>, Session), BenchFault>
     ensures said { IfOk result (λ written. IsSession written.0.items (plan_of bench.now events.now)) }
     ensures read { IfOk result (λ written. written.1 ≡ plan_of bench.now events.now) }
+    ensures sayable { OnOk result (IsSayable (plan_of bench.now events.now)) }
+    ensures refused { IfErr result (UnsaidBy (plan_of bench.now events.now)) }
 {
     match write_session(alloc, bench.panels.as_slice(), events, bench.end) {
         Ok(written) => Ok(written),
@@ -346,14 +345,13 @@ fn output_of<F: AliasCode, K: Fn(ServiceKind, Text) -> F>(
     requires make { K.IsAlwaysCallable make.now }
     requires services { MakesServices (K.post make.now) F.may_call F.may_reply }
     requires slice { 1 ≤ slice }
-    ensures { IfOk result (λ output. output.items ≡ program_sections session.now) }
+    ensures output { IfOk result (λ output. output.items ≡ program_sections session.now) }
+    ensures memory { IfErr result (λ fault. fault ≡ BenchFault.NoMemory) }
 {
     let aliases = services_of(alloc, session, make)?;
     let mut output = Vec::new(alloc);
-    match tkhost::play(alloc, session, aliases, slice, &mut output) {
-        Ok(()) => Ok(output),
-        Err(PlayFault::NoMemory) | Err(PlayFault::Write) => Err(BenchFault::NoMemory),
-    }
+    tkhost::play(alloc, session, aliases, slice, &mut output)?;
+    Ok(output)
 }
 
 /// The section of each panel of a bench at its end, where its gestures became these lines. Refused are, in this order: panels that can't stand side by side
@@ -368,7 +366,8 @@ pub fn sections_with<F: AliasCode, K: Fn(ServiceKind, Text) -> F>(
     requires make { K.IsAlwaysCallable make.now }
     requires services { MakesServices (K.post make.now) F.may_call F.may_reply }
     requires slice { 1 ≤ slice }
-    ensures { IfOk result (λ sections. map (λ section. section.items) sections.items ≡ sections_in (program_sections (plan_of bench.now events.now))) }
+    ensures sections { IfOk result (λ sections. map (λ section. section.items) sections.items ≡ sections_in (program_sections (plan_of bench.now events.now))) }
+    ensures refused { IfErr result (UnsaidBy (plan_of bench.now events.now)) }
 {
     let (_, plan) = written(alloc, bench, events)?;
     let output = output_of(alloc, &plan, slice, make)?;
@@ -379,6 +378,7 @@ pub fn sections_with<F: AliasCode, K: Fn(ServiceKind, Text) -> F>(
 /// lines of a session that lead to where its window lies at that moment. These lines and the panels are a session, which is written, read again and played.
 ///
 /// Refused are, in this order: panels that can't stand side by side in a session, the first entry that the host refuses, and an end before the last of them.
+#[tactic(auto, using(crate::proofs::Refused::refused_first, crate::proofs::Refused::refused_among, crate::proofs::Refused::refused_last))]
 pub fn play<F: AliasCode, K: Fn(ServiceKind, Text) -> F>(
     alloc: Global,
     bench: &Bench,
@@ -393,6 +393,7 @@ pub fn play<F: AliasCode, K: Fn(ServiceKind, Text) -> F>(
     ensures course { IfOk result (λ played. let way = course_of (λ (service : Service). answer_of service.kind service.config) bench.now (map services_in bench.now.panels.items) in
         (played.events.items ≡ way.events) × (map told played.findings.items ≡ way.found)) }
     ensures sections { IfOk result (λ played. map (λ section. section.items) played.sections.items ≡ sections_in played.output.items) }
+    ensures refused { IfErr result (IsRefused (λ (service : Service). answer_of service.kind service.config) bench.now (map services_in bench.now.panels.items)) }
 {
     let (_, begun) = written(alloc, bench, &[])?;
     let aliases = services_of(alloc, &begun, make)?;

@@ -1,17 +1,17 @@
 //! Where a panel stands as it runs out of its steps.
 
-ghost use Rattle.std.specs.Prelude.{◌≤◌};
+ghost use Rattle.std.specs.Prelude.{◌≤◌, IfErr};
 ghost use Rattle.tkhost.specs.Play.{MakesServices};
+ghost use Rattle.panels.specs.Played.{plan_of};
+ghost use Rattle.panels.specs.Refusals.{UnsaidBy};
 
-use crate::bench::{Act, Bench, Entry, Gesture};
-use crate::course::Course;
-use crate::gesture::Screen;
-use crate::playing::{BenchFault, go_through, refused, started, written};
+use crate::bench::Bench;
+use crate::playing::{BenchFault, written};
 use std::alloc::{AllocError, Global};
 use tcl_text::Text;
 use tk_host::{AliasCode, CommandPlace};
 use tk_session::{EventLine, ServiceKind};
-use tkhost::services_of;
+use tkhost::{filled, run_through, services_of};
 
 /// A command that had begun and hadn't ended, or that was about to begin.
 #[derive(Drop)]
@@ -24,20 +24,6 @@ pub struct Stand {
     pub end: usize,
     /// Whether the script is the body of a procedure.
     pub is_in_body: bool,
-}
-
-/// The lines of a session as entries of a bench.
-fn entries_of(alloc: Global, events: &[EventLine]) -> Result<Vec<Entry>, AllocError> {
-    let mut entries = Vec::new(alloc);
-    for event in events {
-        let mut lines = Vec::new(alloc);
-        lines.push(event.line)?;
-        entries.push(Entry {
-            moment: event.moment,
-            act: Act::Do(Gesture::Lines(lines)),
-        })?;
-    }
-    Ok(entries)
 }
 
 /// The commands at which an application stood.
@@ -69,23 +55,12 @@ pub fn stopped_with<F: AliasCode, K: Fn(ServiceKind, Text) -> F>(
     requires make { K.IsAlwaysCallable make.now }
     requires services { MakesServices (K.post make.now) F.may_call F.may_reply }
     requires slice { 1 ≤ slice }
+    ensures refused { IfErr result (UnsaidBy (plan_of bench.now events.now)) }
 {
     let (_, session) = written(alloc, bench, events)?;
     let aliases = services_of(alloc, &session, make)?;
-    let entries = entries_of(alloc, session.events())?;
-    let mut course = Course {
-        screen: Screen {
-            rects: Vec::new(alloc),
-            keys: None,
-        },
-        events: Vec::new(alloc),
-        findings: Vec::new(alloc),
-    };
-    let mut host = started(alloc, &session, aliases, slice)?;
-    go_through(alloc, &mut host, &mut course, entries.as_slice())?;
-    if let Err(fault) = host.advance_to(session.end()) {
-        return Err(refused(entries.len(), fault));
-    }
+    let mut host = filled(alloc, &session, aliases, slice)?;
+    run_through(&mut host, &session)?;
     match host.stopped_at(slot) {
         Some(places) => Ok(stands_of(alloc, places)?),
         None => Ok(Vec::new(alloc)),

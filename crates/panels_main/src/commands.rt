@@ -1,23 +1,21 @@
 //! What the program does.
 
-use crate::difference::differences;
-use crate::explaining::explained;
-use crate::failure::{Failure, fault};
-use crate::files::{beside, expected, load, write};
-use crate::formats::{json, junit, tap};
+use crate::idle::push_idle;
 use crate::isolating::push_disturbed;
-use crate::messages::slot_at;
-use crate::options::{Command, Format, Options};
-use crate::reading::Read;
-use crate::report::{Case, count_failed, push_cases, report};
-use crate::shards::shard_of;
+use crate::linting::lint;
+use crate::live::live;
+use crate::report::push_cases;
 use crate::showing::{draw, show as show_page, tell};
-use crate::sides::Side;
 use panels::{BenchFault, Played, compared, is_same, play};
+use panels_bench::{Read, Side, load, slot_at};
+use panels_text::{
+    Case, Command, Failure, Format, Options, as_text, count_failed, differences, expected,
+    explained, fault, file_beside, json, junit, report, shard_of, tap, write,
+};
 use std::alloc::Global;
 use std::env::Env;
 use std::fs;
-use std::io::Eprint;
+use std::io::{Eprint, Input};
 use std::rt::Files;
 use tcl_text::Text;
 use tk_session::{LineFault, ServiceKind, WritingFault};
@@ -91,6 +89,7 @@ fn push_played<R: Files + AllocGlobal>(
     let played = played(rt.alloc(), file, &read)?;
     let first = cases.len();
     push_cases(rt, cases, file, &read, &played)?;
+    push_idle(rt.alloc(), cases.as_mut_slice(), first, &read, &played)?;
     if isolates {
         push_disturbed(rt, cases, first, file, &played)?;
     }
@@ -149,7 +148,7 @@ fn check<R: Env + Files + AllocGlobal + Print + Eprint>(
 }
 
 fn print<R: Print>(rt: &R, bytes: &[u8]) -> Result<(), Failure> {
-    Ok(rt.print(std::str::from_utf8(bytes).unwrap_or(""))?)
+    Ok(rt.print(as_text(bytes))?)
 }
 
 /// Prints what a bench writes, or the session that it is.
@@ -178,7 +177,7 @@ fn accept_panel<R: Files + AllocGlobal + Print>(
     let Some(name) = &side.expect else {
         return Ok(());
     };
-    let path = beside(alloc, file, name.as_str())?;
+    let path = file_beside(alloc, file, name.as_str())?;
     let now = compared(alloc, section, side.counts_steps)?;
     match expected(rt, file, name.as_str())? {
         None => {
@@ -189,9 +188,7 @@ fn accept_panel<R: Files + AllocGlobal + Print>(
             if is_same(before.as_slice(), now.as_slice()) {
                 return Ok(());
             }
-            let wanted = std::str::from_utf8(before.as_slice()).unwrap_or("");
-            let got = std::str::from_utf8(now.as_slice()).unwrap_or("");
-            for difference in differences(alloc, wanted, got)? {
+            for difference in differences(alloc, before.as_slice(), now.as_slice())? {
                 let text = format!(in alloc; "{}: {}", path.as_str(), difference.as_str())?;
                 rt.println(text.as_str())?;
             }
@@ -304,14 +301,14 @@ fn explain<R: Files + AllocGlobal + Print>(rt: &R, file: &str) -> Result<u8, Fai
 }
 
 /// Does what is asked for, and answers the exit status.
-pub(crate) fn obeyed<R: Env + Files + AllocGlobal + Print + Eprint>(
+pub(crate) fn obeyed<R: Env + Files + AllocGlobal + Input + Print + Eprint>(
     rt: &R,
     options: &Options,
     on_terminal: bool,
 ) -> Result<u8, Failure> {
     let files = options.files.as_slice();
-    let [file, ..] = files else {
-        return Ok(2);
+    let Some(file) = files.first() else {
+        return live(rt);
     };
     match options.command {
         Command::Check => check(rt, options, on_terminal),
@@ -320,6 +317,8 @@ pub(crate) fn obeyed<R: Env + Files + AllocGlobal + Print + Eprint>(
         Command::Accept => accept(rt, files),
         Command::New => make(rt, file.as_str()),
         Command::Explain => explain(rt, file.as_str()),
+        Command::Lint => lint(rt, files),
+        Command::Live => live(rt),
         Command::Draw => match (options.at, &options.to) {
             (Some(moment), Some(to)) => draw(rt, file.as_str(), moment, to.as_str()),
             _ => Ok(2),

@@ -1,12 +1,9 @@
 //! Whether a panel shows the same beside other neighbours.
 
 use crate::commands::not_played;
-use crate::difference::differences;
-use crate::failure::Failure;
-use crate::files::load;
-use crate::report::Case;
-use crate::trace::text_of;
 use panels::{Neighbours, Played, beside, is_same, sections_with};
+use panels_bench::load;
+use panels_text::{Case, Failure, differences};
 use std::alloc::{AllocError, Global};
 use std::mem;
 use std::rt::Files;
@@ -81,8 +78,8 @@ fn push_problem(
     alloc: Global,
     case: &mut Case,
     words: &str,
-    wanted: &str,
-    got: &str,
+    wanted: &[u8],
+    got: &[u8],
 ) -> Result<(), AllocError> {
     for text in differences(alloc, wanted, got)? {
         let text = format!(in alloc; "{words} it shows something else: {}", text.as_str())?;
@@ -103,14 +100,12 @@ fn push_if_disturbed<R: Files + AllocGlobal>(
     let alloc = rt.alloc();
     let alone = section_beside(rt, file, played, slot, Neighbours::Blank)?;
     if !is_same(own, alone.as_slice()) {
-        let (wanted, got) = (text_of(own), text_of(alone.as_slice()));
-        push_problem(alloc, case, "alone", wanted, got)?;
+        push_problem(alloc, case, "alone", own, alone.as_slice())?;
     }
     let beside = section_beside(rt, file, played, slot, Neighbours::Endless)?;
     if !is_same(own, beside.as_slice()) {
         let words = "beside endless neighbours";
-        let (wanted, got) = (text_of(own), text_of(beside.as_slice()));
-        push_problem(alloc, case, words, wanted, got)?;
+        push_problem(alloc, case, words, own, beside.as_slice())?;
     }
     Ok(())
 }

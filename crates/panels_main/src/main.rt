@@ -1,38 +1,27 @@
 //! The command `panels`: benches are checked, run and accepted, and sessions explained.
 #![tactic(auto)]
 
+mod asking;
+mod bindings;
+mod blocks;
 mod commands;
-mod difference;
-mod doing;
-mod explaining;
-mod failure;
-mod files;
+mod failing;
 mod film;
-mod formats;
+mod idle;
 mod isolating;
-mod keys;
-mod lines;
-mod messages;
-mod nearest;
-mod options;
+mod linting;
+mod live;
+mod looks;
+mod notes;
 mod page;
-mod place;
-mod reading;
 mod report;
-mod rows;
 mod scenes;
 mod screens;
-mod seeing;
-mod shards;
 mod showing;
-mod sides;
-mod table;
 mod trace;
-mod typing;
 
 use commands::obeyed;
-use failure::Failure;
-use options::options_of;
+use panels_text::{Failure, options_of};
 use std::env;
 use std::io::IsTerminal;
 use std::process::ExitCode;
@@ -46,6 +35,9 @@ usage: panels check [--format text|tap|junit|json] [--shard K/N] [--isolate] BEN
        panels accept BENCH..   writes the expected files, and tells what changes in them
        panels new FOLDER       writes a bench that passes
        panels explain SESSION  tells a session's fault in words
+       panels lint SCRIPT|BENCH..
+                               tells what isn't there of what scripts name by literal words
+       panels live             plays a session that comes line by line, and answers each line
        panels draw BENCH --at TIME --to FILE.svg
                                writes a picture of its panels at a moment
        panels show BENCH --to FILE.html

@@ -1,11 +1,9 @@
 //! A page that shows a bench from moment to moment.
 
-use crate::failure::Failure;
 use crate::film::{Film, Frame};
-use crate::formats::push_escaped;
-use crate::lines::line_words;
 use crate::scenes::{STYLE, head, scene};
 use panels::{Bench, picture};
+use panels_text::{Failure, as_text, line_words, push_escaped};
 use std::alloc::{AllocError, Global};
 use tk_session::EventLine;
 
@@ -145,12 +143,12 @@ fn push_frame(
     push_lines(alloc, page, bench, events, moment)?;
     page.push_str("<div class=\"screen\">\n")?;
     let sections = frame.sections.as_slice();
-    let scene = scene(alloc, bench, events, frame.count, sections)?;
+    let scene = scene(alloc, bench, events, frame)?;
     let picture = picture(alloc, &scene, b"")?;
-    page.push_str(std::str::from_utf8(picture.as_slice()).unwrap_or(""))?;
+    page.push_str(as_text(picture.as_slice()))?;
     page.push_str("</div>\n<div class=\"panels\">\n")?;
     for section in sections {
-        push_panel(page, std::str::from_utf8(section.as_slice()).unwrap_or(""))?;
+        push_panel(page, as_text(section.as_slice()))?;
     }
     Ok(page.push_str("</div>\n</section>\n")?)
 }

@@ -1,25 +1,12 @@
 //! What is told of benches that were played.
 
-use crate::difference::differences;
-use crate::failure::Failure;
-use crate::files::expected;
-use crate::messages::{slot_of_finding, told};
-use crate::reading::Read;
-use crate::sides::Side;
+use crate::failing::{error_place, spent_place};
 use panels::{Played, compared, is_same};
+use panels_bench::{Read, Side, label_of, slot_of_finding, told};
+use panels_text::{Case, Failure, as_text, differences, expected};
 use std::alloc::{AllocError, Global};
 use std::rt::Files;
-
-/// A panel of a bench that was played, or what is of no panel.
-#[derive(Drop)]
-pub(crate) struct Case {
-    /// The bench's file.
-    pub bench: String,
-    /// The panel's name; empty for what is of none.
-    pub panel: String,
-    /// What isn't as it has to be; nothing where all is.
-    pub problems: Vec<String>,
-}
+use tk_base::Budget;
 
 /// Whether a line of a section has a word in front.
 fn line_with<'a>(section: &'a str, first: &str) -> Option<&'a str> {
@@ -47,23 +34,68 @@ fn push_findings(
     Ok(())
 }
 
-/// Adds an error of a script, and that a panel ran out, where the bench doesn't say that they may be.
-fn push_ends(
+/// A panel that was played.
+#[derive(Clone, Copy)]
+struct Part<'a> {
+    file: &'a str,
+    played: &'a Played,
+    slot: usize,
+    side: &'a Side,
+    /// Its name.
+    name: &'a str,
+    budget: Budget,
+    /// Its section at the end.
+    section: &'a str,
+}
+
+/// Adds a problem, and below it where it comes from.
+fn push_placed(
     alloc: Global,
     problems: &mut Vec<String>,
-    side: &Side,
-    section: &str,
+    words: &str,
+    place: Option<String>,
 ) -> Result<(), AllocError> {
-    if let (false, Some(line)) = (side.may_fail, line_with(section, "err ")) {
-        problems.push(format!(in alloc;
+    let text = match place {
+        Some(place) => format!(in alloc; "{words}\n      {}", place.as_str())?,
+        None => String::from_str(alloc, words)?,
+    };
+    Ok(problems.push(text)?)
+}
+
+/// That a panel with this budget ran out.
+fn spent_words(alloc: Global, budget: Budget) -> Result<String, AllocError> {
+    let total = budget.total;
+    let had = if budget.refill == 0 {
+        format!(in alloc; "{total}")?
+    } else {
+        format!(in alloc; "{total}, and {} more with each event", budget.refill)?
+    };
+    format!(in alloc;
+        "it ran out of steps, of which it had {}: a script never ended, or took more than that (exhausted = true lets it)",
+        had.as_str()
+    )
+}
+
+/// Adds an error of a script, and that a panel ran out, where the bench doesn't say that they may be.
+fn push_ends<R: Files + AllocGlobal>(
+    rt: &R,
+    problems: &mut Vec<String>,
+    part: Part<'_>,
+) -> Result<(), Failure> {
+    let alloc = rt.alloc();
+    let label = label_of(alloc, part.file, part.side, part.name)?;
+    if let (false, Some(line)) = (part.side.may_fail, line_with(part.section, "err ")) {
+        let place = error_place(rt, part.file, label.as_str(), part.played, part.slot, line)?;
+        let words = format!(in alloc;
             "a script ended with an error: {line} (errors = true lets it)"
-        )?)?;
+        )?;
+        push_placed(alloc, problems, words.as_str(), place)?;
     }
-    let head = line_with(section, "app ").unwrap_or("");
-    if !side.may_run_out && head.ends_with(" exhausted 0") {
-        let text =
-            "it ran out of steps: a script never ended, or took more than steps has (exhausted = true lets it)";
-        problems.push(String::from_str(alloc, text)?)?;
+    let head = line_with(part.section, "app ").unwrap_or("");
+    if !part.side.may_run_out && head.ends_with(" exhausted 0") {
+        let place = spent_place(rt, part.file, label.as_str(), part.played, part.slot)?;
+        let words = spent_words(alloc, part.budget)?;
+        push_placed(alloc, problems, words.as_str(), place)?;
     }
     Ok(())
 }
@@ -91,15 +123,22 @@ fn push_unexpected<R: Files + AllocGlobal>(
         }
         Some(wanted) => {
             if !is_same(wanted.as_slice(), got.as_slice()) {
-                let wanted = std::str::from_utf8(wanted.as_slice()).unwrap_or("");
-                let got = std::str::from_utf8(got.as_slice()).unwrap_or("");
-                for text in differences(alloc, wanted, got)? {
+                for text in differences(alloc, wanted.as_slice(), got.as_slice())? {
                     problems.push(text)?;
                 }
             }
         }
     }
     Ok(())
+}
+
+/// What a panel of a bench has of problems; the empty name is that of none.
+fn case(alloc: Global, file: &str, name: &str, problems: Vec<String>) -> Result<Case, Failure> {
+    Ok(Case {
+        bench: String::from_str(alloc, file)?,
+        panel: String::from_str(alloc, name)?,
+        problems,
+    })
 }
 
 /// What isn't as it has to be of the panel in a slot.
@@ -113,26 +152,26 @@ fn case_of<R: Files + AllocGlobal>(
 ) -> Result<Case, Failure> {
     let alloc = rt.alloc();
     let mut problems = Vec::new(alloc);
-    push_findings(alloc, &mut problems, read, played, Some(slot))?;
-    let name = match read.bench.panels.as_slice().get(slot) {
-        Some(panel) => panel.name.as_str(),
-        None => "",
+    let Some(panel) = read.bench.panels.as_slice().get(slot) else {
+        return case(alloc, file, "", problems);
     };
+    let name = panel.name.as_str();
     if let Some(section) = played.sections.as_slice().get(slot) {
         let bytes = section.as_slice();
-        push_ends(
-            alloc,
-            &mut problems,
+        let part = Part {
+            file,
+            played,
+            slot,
             side,
-            std::str::from_utf8(bytes).unwrap_or(""),
-        )?;
+            name,
+            budget: panel.budget,
+            section: as_text(bytes),
+        };
+        push_ends(rt, &mut problems, part)?;
+        push_findings(alloc, &mut problems, read, played, Some(slot))?;
         push_unexpected(rt, &mut problems, file, side, bytes)?;
     }
-    Ok(Case {
-        bench: String::from_str(alloc, file)?,
-        panel: String::from_str(alloc, name)?,
-        problems,
-    })
+    case(alloc, file, name, problems)
 }
 
 /// Adds the cases of a bench that was played: a case for each panel, and one for what is of none, where there is such.
@@ -150,54 +189,7 @@ pub(crate) fn push_cases<R: Files + AllocGlobal>(
     let mut problems = Vec::new(alloc);
     push_findings(alloc, &mut problems, read, played, None)?;
     if !problems.is_empty() {
-        cases.push(Case {
-            bench: String::from_str(alloc, file)?,
-            panel: String::new(alloc),
-            problems,
-        })?;
+        cases.push(case(alloc, file, "", problems)?)?;
     }
     Ok(())
-}
-
-/// What a case is of.
-pub(crate) fn title(alloc: Global, case: &Case) -> Result<String, AllocError> {
-    if case.panel.is_empty() {
-        String::from_str(alloc, case.bench.as_str())
-    } else {
-        format!(in alloc; "{}: {}", case.bench.as_str(), case.panel.as_str())
-    }
-}
-
-/// Adds the line of a case, and those of what isn't as it has to be.
-fn push_case(alloc: Global, text: &mut String, case: &Case) -> Result<(), AllocError> {
-    let is_fine = case.problems.is_empty();
-    text.push_str(if is_fine { "ok    " } else { "FAIL  " })?;
-    text.push_str(title(alloc, case)?.as_str())?;
-    text.push_str("\n")?;
-    for problem in &case.problems {
-        text.push_str("    ")?;
-        text.push_str(problem.as_str())?;
-        text.push_str("\n")?;
-    }
-    Ok(())
-}
-
-/// How many cases aren't as they have to be.
-pub(crate) fn count_failed(cases: &[Case]) -> usize {
-    cases
-        .iter()
-        .filter(|case| !case.problems.is_empty())
-        .count()
-}
-
-/// A line for each case, what isn't as it has to be, and how many there are.
-pub(crate) fn report(alloc: Global, cases: &[Case]) -> Result<String, AllocError> {
-    let mut text = String::new(alloc);
-    for case in cases {
-        push_case(alloc, &mut text, case)?;
-    }
-    let failed = count_failed(cases);
-    let line = format!(in alloc; "{} panels, {failed} of them failed\n", cases.len())?;
-    text.push_str(line.as_str())?;
-    Ok(text)
 }

@@ -18,7 +18,7 @@ pub(crate) struct Screen {
 
 impl Screen {
     /// A line changes what is known.
-    fn take(&mut self, line: HostLine) {
+    pub(crate) fn take(&mut self, line: HostLine) {
         match line {
             HostLine::Move { x, y } => self.pointer = Some((u64::from(x), u64::from(y))),
             HostLine::Focus(slot) => self.keys = slot,

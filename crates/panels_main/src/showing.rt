@@ -1,13 +1,15 @@
 //! Pictures and pages of benches.
 
-use crate::commands::{not_played, played};
-use crate::failure::{Failure, fault};
-use crate::files::{load, write};
+use crate::bindings::bindings_of;
+use crate::commands::played;
 use crate::film::{filmed, frame_at};
+use crate::notes::notes_of;
 use crate::page::page;
 use crate::scenes::{STYLE, scene};
-use crate::trace::trace;
+use crate::trace::{Story, trace};
 use panels::picture;
+use panels_bench::load;
+use panels_text::{Failure, fault, write};
 use std::rt::Files;
 
 /// Writes a picture of a bench at a moment.
@@ -18,7 +20,7 @@ pub(crate) fn draw<R: Files + AllocGlobal>(
     to: &str,
 ) -> Result<u8, Failure> {
     let alloc = rt.alloc();
-    let mut read = load(rt, file)?;
+    let read = load(rt, file)?;
     let end = read.bench.end;
     if moment > end {
         let words = format!(in alloc; "--at {moment} is behind the end, which is {end}")?;
@@ -26,16 +28,11 @@ pub(crate) fn draw<R: Files + AllocGlobal>(
     }
     let played = played(alloc, file, &read)?;
     let events = played.events.as_slice();
-    match frame_at(alloc, &mut read.bench, events, read.slice, moment) {
-        Ok(frame) => {
-            let sections = frame.sections.as_slice();
-            let scene = scene(alloc, &read.bench, events, frame.count, sections)?;
-            let picture = picture(alloc, &scene, STYLE.as_bytes())?;
-            write(rt, alloc, to, picture.as_slice())?;
-            Ok(0)
-        }
-        Err(why) => Err(not_played(alloc, file, &read, why)),
-    }
+    let frame = frame_at(alloc, played.session.as_slice(), read.slice, moment)?;
+    let scene = scene(alloc, &read.bench, events, &frame)?;
+    let picture = picture(alloc, &scene, STYLE.as_bytes())?;
+    write(rt, alloc, to, picture.as_slice())?;
+    Ok(0)
 }
 
 /// Writes a page of a bench.
@@ -45,37 +42,36 @@ pub(crate) fn show<R: Files + AllocGlobal + Print>(
     to: &str,
 ) -> Result<u8, Failure> {
     let alloc = rt.alloc();
-    let mut read = load(rt, file)?;
+    let read = load(rt, file)?;
     let played = played(alloc, file, &read)?;
-    let events = played.events.as_slice();
-    match filmed(alloc, &mut read.bench, events, read.slice) {
-        Ok(film) => {
-            let page = page(alloc, file, &read.bench, events, &film)?;
-            write(rt, alloc, to, page.as_str().as_bytes())?;
-            let text = format!(in alloc; "{to}: {} moments", film.frames.len())?;
-            rt.println(text.as_str())?;
-            Ok(0)
-        }
-        Err(why) => Err(not_played(alloc, file, &read, why)),
-    }
+    let film = filmed(alloc, played.session.as_slice(), read.slice)?;
+    let page = page(alloc, file, &read.bench, played.events.as_slice(), &film)?;
+    write(rt, alloc, to, page.as_str().as_bytes())?;
+    let text = format!(in alloc; "{to}: {} moments", film.frames.len())?;
+    rt.println(text.as_str())?;
+    Ok(0)
 }
 
 /// Prints what happens on a bench, moment by moment.
 pub(crate) fn tell<R: Files + AllocGlobal + Print>(rt: &R, file: &str) -> Result<u8, Failure> {
     let alloc = rt.alloc();
-    let mut read = load(rt, file)?;
+    let read = load(rt, file)?;
     let played = played(alloc, file, &read)?;
+    let session = played.session.as_slice();
+    let film = filmed(alloc, session, read.slice)?;
     let events = played.events.as_slice();
-    match filmed(alloc, &mut read.bench, events, read.slice) {
-        Ok(film) => {
-            let panels = read.bench.panels.as_slice();
-            let text = trace(alloc, panels, events, film.frames.as_slice())?;
-            rt.print(text.as_str())?;
-            if !film.is_whole {
-                rt.println("the bench goes on, and there are too many moments to tell")?;
-            }
-            Ok(0)
-        }
-        Err(why) => Err(not_played(alloc, file, &read, why)),
+    let notes = notes_of(alloc, &read.bench, session, events)?;
+    let ran = bindings_of(alloc, load(rt, file)?, events)?;
+    let story = Story {
+        panels: read.bench.panels.as_slice(),
+        events,
+        notes: notes.as_slice(),
+        ran: ran.as_slice(),
+    };
+    let text = trace(alloc, story, film.frames.as_slice())?;
+    rt.print(text.as_str())?;
+    if !film.is_whole {
+        rt.println("the bench goes on, and there are too many moments to tell")?;
     }
+    Ok(0)
 }

@@ -168,16 +168,14 @@ fn unseen(line: &str) -> &'static str {
 /// Why a line may be none of its place.
 fn hint(alloc: Global, found: &Stand<'_>, line: &str) -> Result<String, AllocError> {
     let plain = unseen(line);
-    if !plain.is_empty() {
-        return String::from_str(alloc, plain);
-    }
     match found.spot {
-        Spot::Block if found.counted_at > 0 => {
+        Spot::Block if found.counted_at > 0 && !line.starts_with("app ") => {
             format!(in alloc;
-                " If it is of a script, the count in line {} is too short.",
+                " If it is of a script, the count in line {} is too short.{plain}",
                 found.counted_at
             )
         }
+        _ if !plain.is_empty() => String::from_str(alloc, plain),
         Spot::Event => event_hint(alloc, line),
         _ => String::from_str(alloc, ""),
     }

@@ -1,6 +1,7 @@
 //! Where a script that can't be read is at fault.
 
 use crate::calls::Unread;
+use crate::indents::displaced;
 use std::alloc::{AllocError, Global};
 use tcl_text::ParseFault;
 use tcl_words::parse;
@@ -18,13 +19,31 @@ fn may_close(fault: &ParseFault) -> bool {
 
 /// A fault in words.
 fn unread(alloc: Global, line: usize, fault: &ParseFault) -> Result<Unread, AllocError> {
+    Ok(Unread {
+        line,
+        fault: String::from_str(alloc, fault.text())?,
+    })
+}
+
+/// What a command of a script opens and never closes; of a brace, by where the lines stand, which one that is.
+fn unclosed(
+    alloc: Global,
+    script: &[u8],
+    first: usize,
+    line: usize,
+    fault: &ParseFault,
+) -> Result<Unread, AllocError> {
     let words = fault.text();
-    let fault = if may_close(fault) {
-        format!(in alloc; "{words}: what this command opens is never closed")?
-    } else {
-        String::from_str(alloc, words)?
-    };
-    Ok(Unread { line, fault })
+    let mut text = format!(in alloc; "{words}: what this command opens is never closed")?;
+    if let ParseFault::MissingBrace = fault {
+        if let Some(inner) = displaced(alloc, script, first)? {
+            let words = format!(in alloc;
+                "; by where the lines stand it is the brace of line {inner}"
+            )?;
+            text.push_str(words.as_str())?;
+        }
+    }
+    Ok(Unread { line, fault: text })
 }
 
 /// Where a script that can't be read is at fault, whose first line is this one: the line up to which what can't be mended stands; or the first one of the
@@ -48,5 +67,5 @@ pub(crate) fn fault_place(alloc: Global, script: &[u8], line: usize) -> Result<U
         }
         number = number.saturating_add(1);
     }
-    unread(alloc, begun_at, &last)
+    unclosed(alloc, script, line, begun_at, &last)
 }

@@ -72,6 +72,12 @@ pub fn serving_key(alloc: Global, name: &str) -> Result<String, AllocError> {
     if let Some(key) = only_character(name) {
         return format!(in alloc; "the name of this key is {}", key.name());
     }
+    if name.chars().count() == 1 {
+        return String::from_str(
+            alloc,
+            "keys type printing ASCII characters alone, and some have names, as Return and space",
+        );
+    }
     serving(alloc, name, NAMES.as_slice())
 }
 

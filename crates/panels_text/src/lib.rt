@@ -10,6 +10,7 @@ mod failure;
 mod fault_place;
 mod files;
 mod formats;
+mod indents;
 mod keys;
 mod lines;
 mod meant;

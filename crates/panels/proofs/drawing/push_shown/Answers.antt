@@ -9,7 +9,7 @@ returns c =
     let window = c.args.window.now in
     let shape = window.shape in
     let old = c.args.text.now.items in
-    let viewed = joined old (window_open shape) (view_box shape) c.in_ok-push_open.ensures c.in_ok-push_view.ensures in
-    let grounded = joined old (window_open shape ++ view_box shape) (window_ground shape) viewed c.in_ok-push_ground.ensures in
-    let edged = joined old (window_open shape ++ view_box shape ++ window_ground shape) (edges shape) grounded c.in_ok-push_edges.ensures in
-    joined old (window_open shape ++ view_box shape ++ window_ground shape ++ edges shape) (content window) edged c.in_ok-push_content.ensures
+    let viewed = joined old (window_open window) (view_box shape) c.in_ok-push_open.ensures c.in_ok-push_view.ensures in
+    let grounded = joined old (window_open window ++ view_box shape) (window_ground shape) viewed c.in_ok-push_ground.ensures in
+    let edged = joined old (window_open window ++ view_box shape ++ window_ground shape) (edges shape) grounded c.in_ok-push_edges.ensures in
+    joined old (window_open window ++ view_box shape ++ window_ground shape ++ edges shape) (content window) edged c.in_ok-push_content.ensures

@@ -1,13 +1,11 @@
 //! How a bench is read.
 
 use crate::doing::gestures;
-use crate::failure::{Failure, fault};
-use crate::place::line_at;
 use crate::seeing::act;
 use crate::sides::{Side, sides};
-use crate::table::Part;
 use panels::{Act, Bench, Entry};
-use std::alloc::Global;
+use panels_text::{Failure, Part, fault, line_at};
+use std::alloc::{AllocError, Global};
 use std::rt::Files;
 use tk_base::MAX_MOMENT;
 use toml::Table;
@@ -20,7 +18,7 @@ const SLICE: u64 = 64;
 
 /// A bench as it was read, with what its file says beside it.
 #[derive(Drop)]
-pub(crate) struct Read {
+pub struct Read {
     pub bench: Bench,
     /// At least 1.
     pub slice: u64,
@@ -77,6 +75,19 @@ fn moment(alloc: Global, part: &Part<'_>, before: u64, end: u64) -> Result<u64, 
     Ok(moment)
 }
 
+/// Adds what an entry says.
+fn push_act(
+    part: &Part<'_>,
+    moment: u64,
+    act: Act,
+    placed: &mut Vec<Placed>,
+) -> Result<(), AllocError> {
+    Ok(placed.push(Placed {
+        line: part.line(""),
+        entry: Entry { moment, act },
+    })?)
+}
+
 /// Adds the gestures of an entry.
 fn push_gestures(
     alloc: Global,
@@ -86,14 +97,7 @@ fn push_gestures(
     placed: &mut Vec<Placed>,
 ) -> Result<(), Failure> {
     for gesture in gestures(alloc, part, bench)? {
-        let entry = Entry {
-            moment,
-            act: Act::Do(gesture),
-        };
-        placed.push(Placed {
-            line: part.line(""),
-            entry,
-        })?;
+        push_act(part, moment, Act::Do(gesture), placed)?;
     }
     Ok(())
 }
@@ -127,14 +131,8 @@ fn push_sights(
     let mut before = 0;
     for part in parts {
         before = moment(alloc, part, before, bench.end)?;
-        let entry = Entry {
-            moment: before,
-            act: act(alloc, part, bench.panels.as_slice())?,
-        };
-        placed.push(Placed {
-            line: part.line(""),
-            entry,
-        })?;
+        let act = act(alloc, part, bench.panels.as_slice())?;
+        push_act(part, before, act, placed)?;
     }
     Ok(())
 }

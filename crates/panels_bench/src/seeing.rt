@@ -1,14 +1,14 @@
 //! What has to be seen.
 
-use crate::failure::Failure;
+use crate::asking::{push_panel_questions, push_window_questions};
 use crate::sides::{numbers, slot_named};
-use crate::table::Part;
 use panels::{Act, Fact, Look};
+use panels_text::{Failure, Part};
 use std::alloc::{AllocError, Global};
 use tk_base::Rect;
 use tk_session::AppBlock;
 
-const KEYS: [&str; 14] = [
+const KEYS: [&str; 22] = [
     "time",
     "after",
     "panel",
@@ -18,12 +18,26 @@ const KEYS: [&str; 14] = [
     "class",
     "place",
     "mapped",
+    "value",
+    "options",
+    "selection",
+    "active",
+    "cursor",
+    "focus",
+    "title",
+    "variables",
     "says",
     "errors",
     "state",
     "least-steps",
     "timers",
 ];
+
+const OF_WINDOW: &str =
+    "a window has one of there, text, class, place, mapped, value, options, selection, active and cursor";
+
+const OF_ANY: &str =
+    "a [[see]] has a window with what it shows, or one of focus, title, variables, says, errors, state, least-steps and timers";
 
 /// The largest place and size of a window, in pixels.
 const MAX_PLACE: u64 = 65_535;
@@ -68,6 +82,17 @@ fn place(alloc: Global, part: &Part<'_>) -> Result<Option<Rect>, Failure> {
     }))
 }
 
+/// The path of the window that a key is of.
+pub(crate) fn window(alloc: Global, part: &Part<'_>, key: &str) -> Result<String, Failure> {
+    match part.text(alloc, "window")? {
+        Some(path) => Ok(String::from_str(alloc, path)?),
+        None => {
+            let words = format!(in alloc; "{key} is of a window: window = \".switch\" is missing")?;
+            Err(part.fault(alloc, key, words.as_str()))
+        }
+    }
+}
+
 /// Adds what a window is to show.
 fn push_fact(
     alloc: Global,
@@ -76,15 +101,11 @@ fn push_fact(
     key: &str,
     fact: Option<Fact>,
 ) -> Result<(), Failure> {
-    let Some(fact) = fact else {
-        return Ok(());
-    };
-    let Some(path) = part.text(alloc, "window")? else {
-        let words = format!(in alloc; "{key} is of a window: window = \".switch\" is missing")?;
-        return Err(part.fault(alloc, key, words.as_str()));
-    };
-    let path = String::from_str(alloc, path)?;
-    Ok(looks.push(Look::Window { path, fact })?)
+    if let Some(fact) = fact {
+        let path = window(alloc, part, key)?;
+        looks.push(Look::Window { path, fact })?;
+    }
+    Ok(())
 }
 
 /// Adds what windows are to show.
@@ -142,11 +163,14 @@ pub(crate) fn act(alloc: Global, part: &Part<'_>, panels: &[AppBlock]) -> Result
     let slot = slot_named(alloc, part, "panel", panels)?;
     let mut looks = Vec::new(alloc);
     push_facts(alloc, part, &mut looks)?;
+    push_window_questions(alloc, part, &mut looks)?;
+    if part.has("window") && looks.is_empty() {
+        return Err(part.fault(alloc, "window", OF_WINDOW));
+    }
+    push_panel_questions(alloc, part, &mut looks)?;
     push_looks(alloc, part, &mut looks)?;
     if looks.is_empty() {
-        let words =
-            "a [[see]] has one of there, text, class, place, mapped, says, errors, state, least-steps and timers";
-        return Err(part.fault(alloc, "", words));
+        return Err(part.fault(alloc, "", OF_ANY));
     }
     Ok(Act::See { slot, looks })
 }

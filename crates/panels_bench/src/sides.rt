@@ -1,9 +1,6 @@
 //! The panels of a bench.
 
-use crate::failure::Failure;
-use crate::files::{beside, plain_script};
-use crate::nearest::serving;
-use crate::table::{Part, in_range};
+use panels_text::{Failure, Part, file_beside, in_range, plain_script, serving};
 use std::alloc::{AllocError, Global};
 use std::fs;
 use std::rt::Files;
@@ -37,9 +34,11 @@ const KINDS: [&str; 5] = ["const", "upper", "sum", "table", "fail"];
 
 /// What is said of a panel beside its application.
 #[derive(Drop)]
-pub(crate) struct Side {
+pub struct Side {
     /// Its line in the bench.
     pub line: usize,
+    /// The file of its script, where it has one.
+    pub script: Option<String>,
     /// The file of the section that it has to end with.
     pub expect: Option<String>,
     /// Whether the steps left have to be those of that file too.
@@ -48,6 +47,14 @@ pub(crate) struct Side {
     pub may_fail: bool,
     /// Whether it may spend all its steps.
     pub may_run_out: bool,
+}
+
+/// What the script of a panel is told by: its file, or else the bench's with the panel's name.
+pub fn label_of(alloc: Global, file: &str, side: &Side, panel: &str) -> Result<String, AllocError> {
+    match &side.script {
+        Some(name) => file_beside(alloc, file, name.as_str()),
+        None => format!(in alloc; "{file}, panel {panel}"),
+    }
 }
 
 /// The slot of the panel that a key names.
@@ -145,7 +152,12 @@ fn budget(alloc: Global, part: &Part<'_>) -> Result<Budget, Failure> {
 }
 
 /// A text of a session; `key` says where it is too long.
-fn text_of(alloc: Global, part: &Part<'_>, key: &str, text: &str) -> Result<Text, Failure> {
+pub(crate) fn text_of(
+    alloc: Global,
+    part: &Part<'_>,
+    key: &str,
+    text: &str,
+) -> Result<Text, Failure> {
     match Text::new(alloc, text) {
         Ok(text) => Ok(text),
         Err(TextFault::TooLong) => Err(part.fault(alloc, key, "this has more than 65536 bytes")),
@@ -207,7 +219,7 @@ fn script<R: Files + AllocGlobal>(rt: &R, part: &Part<'_>) -> Result<Text, Failu
     let script = match (part.text(alloc, "script")?, part.text(alloc, "text")?) {
         (None, Some(text)) => plain_script(alloc, text)?,
         (Some(name), None) => {
-            let path = beside(alloc, part.file, name)?;
+            let path = file_beside(alloc, part.file, name)?;
             let Ok(text) = fs::read_to_string(rt, path.as_str()) else {
                 let words = format!(in alloc;
                     "script {name} can't be read, or isn't UTF-8: a script's name is that of a file from the bench's folder on"
@@ -240,6 +252,7 @@ fn copied(alloc: Global, text: Option<&str>) -> Result<Option<String>, AllocErro
 fn side_of(alloc: Global, part: &Part<'_>) -> Result<Side, Failure> {
     Ok(Side {
         line: part.line("name"),
+        script: copied(alloc, part.text(alloc, "script")?)?,
         expect: copied(alloc, part.text(alloc, "expect")?)?,
         counts_steps: is_said(alloc, part, "expect-steps")?,
         may_fail: is_said(alloc, part, "errors")?,

@@ -1,6 +1,9 @@
 //! What isn't as it has to be, in words.
 
-use panels::{Act, Bench, Entry, Fact, Finding, Found, Gesture, Look, Miss, Pointing};
+use panels::{
+    Act, Answer, Bench, Entry, Fact, Finding, Found, Gesture, Look, Miss, Pointing, Question,
+};
+use panels_text::as_text;
 use std::alloc::{AllocError, Global};
 use tk_session::AppBlock;
 
@@ -11,7 +14,7 @@ fn push_lines(
     first: &str,
     second: &str,
 ) -> Result<(), AllocError> {
-    for line in std::str::from_utf8(section).unwrap_or("").split('\n') {
+    for line in as_text(section).split('\n') {
         if line.starts_with(first) || line.starts_with(second) {
             text.push_str("\n      ")?;
             text.push_str(line)?;
@@ -48,7 +51,7 @@ fn missed(
     section: &[u8],
 ) -> Result<String, AllocError> {
     let path = pointing.target.window.as_str();
-    let told = std::str::from_utf8(section).unwrap_or("");
+    let told = as_text(section);
     let mut text = match miss {
         Miss::NoWindow => format!(in alloc; "there is no window {path}")?,
         Miss::Hidden => format!(in alloc; "window {path} isn't hit: it isn't shown there")?,
@@ -86,24 +89,97 @@ fn wanted_fact(alloc: Global, fact: &Fact) -> Result<String, AllocError> {
     }
 }
 
+/// What was asked, in words.
+fn question_words(alloc: Global, question: &Question) -> Result<String, AllocError> {
+    match question {
+        Question::Option { window, name } => {
+            format!(in alloc; "option {} of window {}", name.as_str(), window.as_str())
+        }
+        Question::Value(window) => format!(in alloc; "the value of window {}", window.as_str()),
+        Question::Selection(window) => {
+            format!(in alloc; "the selected rows of window {}", window.as_str())
+        }
+        Question::Active(window) => {
+            format!(in alloc; "the active row of window {}", window.as_str())
+        }
+        Question::Cursor(window) => format!(in alloc; "the cursor of window {}", window.as_str()),
+        Question::Focus => String::from_str(alloc, "the focus window"),
+        Question::Title => String::from_str(alloc, "the title"),
+        Question::Variable(name) => format!(in alloc; "variable {}", name.as_str()),
+    }
+}
+
+/// Rows of a listbox.
+fn row_words(alloc: Global, rows: &[usize]) -> Result<String, AllocError> {
+    let mut words = String::from_str(alloc, "[")?;
+    for (place, row) in rows.iter().enumerate() {
+        let front = if place > 0 { ", " } else { "" };
+        words.push_str(format!(in alloc; "{front}{row}")?.as_str())?;
+    }
+    words.push(']')?;
+    Ok(words)
+}
+
+/// An answer in words.
+fn answer_words(alloc: Global, answer: &Answer) -> Result<String, AllocError> {
+    match answer {
+        Answer::Nothing => String::from_str(alloc, "none, there is no such thing"),
+        Answer::Text(text) => format!(in alloc; "\"{}\"", text.as_str()),
+        Answer::Number(number) => format!(in alloc; "{number}"),
+        Answer::Rows(rows) => row_words(alloc, rows.as_slice()),
+    }
+}
+
+/// The window of which something is asked, if it is of one.
+fn window_of(question: &Question) -> Option<&str> {
+    match question {
+        Question::Option { window, name: _ } => Some(window.as_str()),
+        Question::Value(window)
+        | Question::Selection(window)
+        | Question::Active(window)
+        | Question::Cursor(window) => Some(window.as_str()),
+        Question::Focus | Question::Title | Question::Variable(_) => None,
+    }
+}
+
+/// Adds what was to be answered, and what was; of a window that has no such thing its line, or where it isn't there those of all.
+fn push_answers(
+    alloc: Global,
+    text: &mut String,
+    question: &Question,
+    wanted: &Answer,
+    finding: &Finding,
+) -> Result<(), AllocError> {
+    let wanted = answer_words(alloc, wanted)?;
+    let got = answer_words(alloc, &finding.answer)?;
+    text.push_str(format!(in alloc;
+        ": wanted {}, got {}",
+        wanted.as_str(),
+        got.as_str()
+    )?.as_str())?;
+    if let (Answer::Nothing, Some(path)) = (&finding.answer, window_of(question)) {
+        text.push_str(". The windows:")?;
+        push_window(alloc, text, path, finding.section.as_slice())?;
+    }
+    Ok(())
+}
+
 /// What was wanted, and the words in front of what there is.
 fn wanted_look(alloc: Global, look: &Look) -> Result<String, AllocError> {
     match look {
+        Look::Asked {
+            question,
+            wanted: _,
+        } => question_words(alloc, question),
         Look::Window { path, fact } => {
             let wanted = wanted_fact(alloc, fact)?;
-            format!(in alloc; "window {}: wanted {wanted}. The windows:", path.as_str())
+            format!(in alloc; "window {}: wanted {wanted}, got:", path.as_str())
         }
         Look::Says(text) => {
-            format!(in alloc;
-                "its transcript has no line \"{}\". It has these:",
-                text.as_str()
-            )
+            format!(in alloc; "its transcript has no line \"{}\". It has:", text.as_str())
         }
         Look::HasError(true) => {
-            String::from_str(
-                alloc,
-                "an error is wanted in its transcript, and there is none:",
-            )
+            String::from_str(alloc, "an error is wanted in its transcript, and there is")
         }
         Look::HasError(false) => String::from_str(alloc, "there is an error in its transcript:"),
         Look::State(state) => format!(in alloc; "state: wanted {}, got", state.as_str()),
@@ -111,22 +187,56 @@ fn wanted_look(alloc: Global, look: &Look) -> Result<String, AllocError> {
             format!(in alloc; "steps left: wanted {least} or more, got (the last number)")
         }
         Look::Waiting(count) => {
-            format!(in alloc; "timers and idle scripts: wanted {count}, got these:")
+            format!(in alloc; "timers and idle scripts: wanted {count}, got:")
         }
     }
 }
 
-/// What wasn't seen.
-fn unseen(alloc: Global, look: &Look, section: &[u8]) -> Result<String, AllocError> {
-    let mut text = wanted_look(alloc, look)?;
-    let (first, second) = match look {
-        Look::Window { .. } => ("win ", "win "),
+/// Adds the line of a window, or of all where it isn't there.
+fn push_window(
+    alloc: Global,
+    text: &mut String,
+    path: &str,
+    section: &[u8],
+) -> Result<(), AllocError> {
+    let front = format!(in alloc; "win {path} ")?;
+    let told = as_text(section);
+    let is_there = told
+        .split('\n')
+        .any(|line| line.starts_with(front.as_str()));
+    let front = if is_there { front.as_str() } else { "win " };
+    push_lines(text, section, front, front)
+}
+
+/// The words with which those lines of a section begin that a look is of.
+fn fronts_of(look: &Look) -> (&'static str, &'static str) {
+    match look {
+        Look::Asked { .. } | Look::Window { .. } => ("win ", "win "),
         Look::Says(_) => ("out ", "err "),
         Look::HasError(_) => ("err ", "err "),
         Look::State(_) | Look::LeastSteps(_) => ("app ", "app "),
         Look::Waiting(_) => ("timer ", "idle "),
-    };
-    push_lines(&mut text, section, first, second)?;
+    }
+}
+
+/// What wasn't seen.
+fn unseen(alloc: Global, look: &Look, finding: &Finding) -> Result<String, AllocError> {
+    let section = finding.section.as_slice();
+    let mut text = wanted_look(alloc, look)?;
+    match look {
+        Look::Asked { question, wanted } => {
+            push_answers(alloc, &mut text, question, wanted, finding)?;
+        }
+        Look::Window { path, .. } => push_window(alloc, &mut text, path.as_str(), section)?,
+        _ => {
+            let (first, second) = fronts_of(look);
+            let before = text.len();
+            push_lines(&mut text, section, first, second)?;
+            if text.len() == before {
+                text.push_str(" none")?;
+            }
+        }
+    }
     Ok(text)
 }
 
@@ -140,7 +250,7 @@ fn slot_of(entry: &Entry) -> Option<usize> {
 }
 
 /// The slot of the panel that a finding is of, if it is of one.
-pub(crate) fn slot_of_finding(bench: &Bench, finding: &Finding) -> Option<usize> {
+pub fn slot_of_finding(bench: &Bench, finding: &Finding) -> Option<usize> {
     slot_of(bench.entries.as_slice().get(finding.entry)?)
 }
 
@@ -153,7 +263,7 @@ fn words_of(alloc: Global, entry: &Entry, finding: &Finding) -> Result<String, A
         }
         (Act::See { slot: _, looks }, Found::Unseen(number)) => {
             match looks.as_slice().get(number) {
-                Some(look) => unseen(alloc, look, section),
+                Some(look) => unseen(alloc, look, finding),
                 None => Ok(String::new(alloc)),
             }
         }
@@ -162,7 +272,7 @@ fn words_of(alloc: Global, entry: &Entry, finding: &Finding) -> Result<String, A
 }
 
 /// A finding in words, with its moment and the line of the bench that asks for it.
-pub(crate) fn told(
+pub fn told(
     alloc: Global,
     bench: &Bench,
     lines: &[usize],
@@ -196,7 +306,7 @@ fn line_count(panel: &AppBlock) -> usize {
 }
 
 /// The slot of the panel that has a line of the session.
-pub(crate) fn slot_at(panels: &[AppBlock], line: usize) -> usize {
+pub fn slot_at(panels: &[AppBlock], line: usize) -> usize {
     let mut last = 1usize;
     for (slot, panel) in panels.iter().enumerate() {
         last = last.saturating_add(line_count(panel));

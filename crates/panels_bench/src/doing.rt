@@ -1,13 +1,12 @@
 //! What a person does.
 
-use crate::failure::Failure;
 use crate::sides::{rect, slot_named};
-use crate::table::Part;
 use crate::typing::{struck, typed};
 use panels::{Bench, Gesture, Pointing, Target, Touch};
-use std::alloc::Global;
+use panels_text::{Failure, Part};
+use std::alloc::{AllocError, Global};
 use tk_base::Rect;
-use tk_session::{AppBlock, HostLine, read_session, write_session};
+use tk_session::{AppBlock, HostLine, read_event};
 use toml::Value;
 
 const KEYS: [&str; 13] = [
@@ -38,14 +37,19 @@ const TOUCHES: [(&str, Touch); 6] = [
 
 const POINTER_KEYS: [&str; 6] = ["panel", "window", "x", "y", "button", "focus"];
 
-const DRAG_KEYS: [&str; 9] = [
-    "panel", "window", "x", "y", "to", "to-x", "to-y", "button", "focus",
+const DRAG_KEYS: [&str; 10] = [
+    "panel", "window", "x", "y", "to", "to-x", "to-y", "moves", "button", "focus",
 ];
 
 const RECT_KEYS: [&str; 3] = ["panel", "at", "size"];
 
 /// The largest place of the pointer in a window, in pixels.
 const MAX_PLACE: u64 = 65_535;
+
+/// How many moves a drag has where it doesn't say, and at most.
+const MOVES: u64 = 8;
+
+const MOST_MOVES: u64 = 1_000;
 
 /// The window of a gesture, and the place in it.
 fn target(
@@ -68,12 +72,25 @@ fn target(
     })
 }
 
-fn button(alloc: Global, part: &Part<'_>) -> Result<u32, Failure> {
-    match part.number(alloc, "button", 5)? {
-        None => Ok(1),
-        Some(0) => Err(part.refused(alloc, "button", "a whole number from 1 to 5")),
-        Some(number) => Ok(u32::try_from(number).unwrap_or(1)),
+/// A number from 1 on.
+fn counted(
+    alloc: Global,
+    part: &Part<'_>,
+    key: &str,
+    first: u64,
+    most: u64,
+) -> Result<u32, Failure> {
+    match part.number(alloc, key, most)?.unwrap_or(first) {
+        0 => {
+            let wanted = format!(in alloc; "a whole number from 1 to {most}")?;
+            Err(part.refused(alloc, key, wanted.as_str()))
+        }
+        number => Ok(u32::try_from(number).unwrap_or(1)),
     }
+}
+
+fn button(alloc: Global, part: &Part<'_>) -> Result<u32, Failure> {
+    counted(alloc, part, "button", 1, 5)
 }
 
 /// What the pointer does at a window.
@@ -86,16 +103,18 @@ fn pointing(
     let presses = matches!(touch, Touch::Click | Touch::DoubleClick | Touch::Press);
     Ok(Gesture::Pointer(Pointing {
         target: target(alloc, part, "window", "x", "y", panels)?,
+        moves: 1,
         touch,
         button: button(alloc, part)?,
         takes_keys: part.boolean(alloc, "focus")?.unwrap_or(presses),
     }))
 }
 
-/// The release that ends a drag.
+/// The moves of a drag, and the release that ends it.
 fn dropping(alloc: Global, part: &Part<'_>, panels: &[AppBlock]) -> Result<Gesture, Failure> {
     Ok(Gesture::Pointer(Pointing {
         target: target(alloc, part, "to", "to-x", "to-y", panels)?,
+        moves: counted(alloc, part, "moves", MOVES, MOST_MOVES)?,
         touch: Touch::Release,
         button: button(alloc, part)?,
         takes_keys: false,
@@ -174,23 +193,20 @@ fn focusing(
     }
 }
 
-/// The line of a session that is written without its moment, where it is one: these panels are written as a session without lines, and read with it.
-fn line_of(alloc: Global, bench: &Bench, words: &str) -> Result<Option<HostLine>, Failure> {
-    let Ok((text, _)) = write_session(alloc, bench.panels.as_slice(), &[], 0) else {
+/// The line of a session that is written without its moment, where it is one.
+fn line_of(
+    alloc: Global,
+    panels: &[AppBlock],
+    words: &str,
+) -> Result<Option<HostLine>, AllocError> {
+    let line = format!(in alloc; "0 {words}")?;
+    let Some(event) = read_event(panels, line.as_str().as_bytes()) else {
         return Ok(None);
     };
-    let Some(front) = text.as_slice().strip_suffix(b"0 end\n".as_slice()) else {
-        return Ok(None);
-    };
-    let mut longer = Vec::from_slice(alloc, front)?;
-    let line = format!(in alloc; "0 {words}\n0 end\n")?;
-    longer.extend_from_slice(line.as_str().as_bytes())?;
-    match read_session(alloc, longer.as_slice()) {
-        Ok(session) => match session.events() {
-            [event] => Ok(Some(event.line)),
-            _ => Ok(None),
-        },
-        Err(_) => Ok(None),
+    match event.line {
+        HostLine::Focus(Some(slot)) if slot >= panels.len() => Ok(None),
+        HostLine::Rect { slot, .. } if slot >= panels.len() => Ok(None),
+        line => Ok(Some(line)),
     }
 }
 
@@ -199,7 +215,7 @@ fn line(alloc: Global, part: &Part<'_>, bench: &Bench) -> Result<Option<HostLine
     let Some(words) = part.text(alloc, "line")? else {
         return Ok(None);
     };
-    match line_of(alloc, bench, words)? {
+    match line_of(alloc, bench.panels.as_slice(), words)? {
         Some(line) => Ok(Some(line)),
         None => {
             let wanted =
@@ -223,7 +239,7 @@ fn push_line(
     Ok(())
 }
 
-/// The gesture of an entry: a drag is two, a press and a release.
+/// The gesture of an entry: a drag is two, a press, and moves that end in a release.
 pub(crate) fn gestures(
     alloc: Global,
     part: &Part<'_>,

@@ -1,9 +1,7 @@
 //! What is typed.
 
-use crate::failure::Failure;
-use crate::keys::serving_key;
-use crate::table::Part;
 use panels::{Gesture, chord};
+use panels_text::{Failure, Part, serving_key};
 use std::alloc::Global;
 use tk_base::Keysym;
 

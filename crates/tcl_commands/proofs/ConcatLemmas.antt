@@ -1,7 +1,10 @@
 -- Texts joined in order.
-use Rattle.std.proofs.Common.{◌≡◌, ℕ, ◌+◌, ◌<◌, List, [], ◌∷◌, ◌++◌, length, get_or, take, refl, sym, ap, ◌∙◌, append_assoc}
-use Rattle.std.proofs.lemmas.List.{append-nil, take_more}
+use Rattle.std.proofs.Common.{◌≡◌, ℕ, ◌+◌, ◌<◌, List, [], ◌∷◌, ◌++◌, length, get_or, take, Ok, Err, refl, sym, ap, ◌∙◌, append_assoc, arith}
+use Rattle.std.proofs.lemmas.List.{append-nil, length-append, take_more}
 use Rattle.std.specs.List.{concat}
+use Rattle.tcl_text.specs.Answers.{Answer, ◌>>=◌, answers, limit_text, Gives, Refuses}
+use Rattle.tcl_text.specs.declared.commands.answers.Refusal.{Refusal}
+use Rattle.tcl_text.proofs.AnswerLemmas.{answers_beyond, given_error}
 
 concat-append : (xs ys : List (List ℕ)) → concat (xs ++ ys) ≡ concat xs ++ concat ys
 concat-append [] ys = refl
@@ -15,3 +18,10 @@ concat_step texts i text within is =
     ∙ concat-append (take i texts) (text ∷ []) ∙ ap (λ t. concat (take i texts) ++ t) (append-nil text)
 
 pub ruleset concats = (concat_step, append_assoc)
+
+-- what is too long by itself is too long behind any value
+pub beyond_value : (refusal : Refusal) (value more : List ℕ) (held : Answer) → held ≡ Ok value → 65536 < length more → Refuses refusal limit_text
+    → Gives {T = List ℕ} (Err refusal) (held >>= λ text. answers (text ++ more))
+beyond_value refusal value more held is long told =
+    let beyond : answers (value ++ more) ≡ Err limit_text = answers_beyond (value ++ more) (omega (arith, length-append value more, long)) in
+    rw (is, beyond) (given_error (List ℕ) refusal limit_text told)

@@ -1,10 +1,15 @@
 -- What the contracts cite.
+pub mod Ahead
 pub mod Arrays
 pub mod ArraySteps
+pub mod Branches
 pub mod Commands
 pub mod Done
 pub mod Edits
+pub mod Groups
 pub mod Links
+pub mod Parameters
+pub mod Shapes
 pub mod Texts
 pub mod Unset
 pub mod Values

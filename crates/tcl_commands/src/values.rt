@@ -1,9 +1,9 @@
 //! The commands of set(n), incr(n), append(n) and lappend(n), and `info exists` of info(n).
-ghost use Rattle.std.specs.Prelude.{◌≡◌, ◌<◌, ◌≤◌, [], ◌∷◌, ◌++◌, length, IfOk, OnOk, codes, string_bytes};
+ghost use Rattle.std.specs.Prelude.{◌≡◌, ◌<◌, ◌≤◌, ℕ, List, [], ◌∷◌, ◌++◌, length, IfOk, OnOk, Err, codes, string_bytes};
 ghost use Rattle.std.specs.List.{concat};
 ghost use Rattle.std.specs.Option.{option_copied};
 ghost use Rattle.tcl_text.specs.Answers.{Gives, answers};
-ghost use Rattle.tcl_text.specs.Limits.{most_in_place};
+ghost use Rattle.tcl_text.specs.Limits.{most_bytes, most_in_place};
 ghost use Rattle.tcl_vars.specs.Store.{variable_in, with_variable};
 ghost use Rattle.tcl_commands.specs.Done.{Does, IfNoMemory};
 ghost use Rattle.tcl_commands.specs.Edits.{edit_answer};
@@ -11,9 +11,10 @@ ghost use Rattle.tcl_commands.specs.Values as spec;
 
 use crate::texts::{cannot_read, cannot_set};
 use std::alloc::{AllocError, Global};
-use tcl_text::answers::{Refusal, Reply, too_large, truth_answer, wrong_args};
+use tcl_text::answers::{Refusal, Reply, limit_reached, too_large, truth_answer, wrong_args};
 use tcl_text::integers::integer_of;
 use tcl_text::items::items_in;
+use tcl_text::lengths::total;
 use tcl_text::{Edit, EditFault, Text};
 use tcl_vars::{ChangeFault, ReadFault, Scopes, SetFault};
 
@@ -178,9 +179,31 @@ fn append(alloc: Global, scopes: &mut Scopes, level: usize, name: &Text, values:
         (spec.variable_changed level name.now [] (λ value. answers (value ++ concat values.now)) scopes.old) }
     ensures levels { length scopes.new ≡ length scopes.old }
 {
-    let mut more = String::new(alloc);
+    let Some(size) = total(values) else {
+        return Err(beyond_limit(alloc, scopes, level, name, values));
+    };
+    let mut more = String::with_capacity(alloc, size)?;
     push_all(&mut more, values)?;
     change(alloc, scopes, level, name, Edit::Characters(more.as_str()))
+}
+
+/// Why values that are too long aren't added behind a variable: it can't be read, or the text would be too long. They aren't joined for that.
+fn beyond_limit(
+    alloc: Global,
+    scopes: &Scopes,
+    level: usize,
+    name: &Text,
+    values: &[Text],
+) -> Refusal
+    requires level { level < length scopes.now }
+    requires long { most_bytes < length (concat values.now) }
+    ensures { Gives {T = List ℕ} (Err result)
+        (spec.value_changed [] name.now (λ value. answers (value ++ concat values.now)) (variable_in scopes.now level name.now)) }
+{
+    match value_or(alloc, scopes, level, name, "") {
+        Ok(_value) => limit_reached(alloc),
+        Err(refusal) => refusal,
+    }
 }
 
 /// Changes a variable in place, where one that isn't there counts as empty.

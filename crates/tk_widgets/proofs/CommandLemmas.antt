@@ -1,18 +1,18 @@
 -- Facts about answers of commands.
-use Rattle.std.proofs.Common.{◌≡◌, ℕ, zero, suc, ◌+◌, ◌-◌, ◌<◌, ◌≤◌, Bool, true, false, leb, cond, List, [], ◌∷◌, ◌++◌, length, map, get_or, take, drop, Ok, Err, Result, refl, sym, ap, ◌∙◌, arith, length-append}
+use Rattle.std.proofs.Common.{◌≡◌, ℕ, zero, suc, ◌+◌, ◌-◌, ◌<◌, ◌≤◌, Bool, true, false, leb, cond, List, [], ◌∷◌, ◌++◌, length, map, get_or, Err, refl, ap, ◌∙◌, arith, length-append}
 use Rattle.std.proofs.lemmas.Bool.Decides.{nat_tests}
 use Rattle.std.specs.List.{Any}
 use Rattle.tcl_text.specs.Answers.{answers, limit_text}
 use Rattle.tcl_text.specs.ListForm.{others_form}
-use Rattle.tcl_text.specs.Readings.{backslashed, begins_comment, can_be_bare, can_be_braced, element_form, is_special, letter_of, list_form, with_backslashes}
-use Rattle.tcl_text.proofs.AnswerLemmas.{answers_within, answers_beyond}
+use Rattle.tcl_text.specs.Readings.{begins_comment, can_be_bare, can_be_braced, element_form, list_form, with_backslashes}
+use Rattle.tcl_text.proofs.AnswerLemmas.{answers_beyond}
 use Rattle.tcl_text.proofs.ListFormLemmas.{list_form-cons}
-use Rattle.tk_entry.specs.declared.entry.Entry.{Entry}
+use Rattle.tk_widgets.specs.declared.entry.Entry.{Entry}
 use Rattle.tk_options.specs.declared.option.OptionEntry.{OptionEntry}
 use Rattle.tk_options.specs.Options.{description, IsTooLong}
 use Rattle.tk_widgets.specs.declared.outcome.WidgetChange.TheVariants.{Edit}
-use Rattle.tk_listbox.specs.Items.{texts}
-use Rattle.tk_listbox.specs.Listboxes.{Held}
+use Rattle.tk_widgets.specs.Items.{texts}
+use Rattle.tk_widgets.specs.Listboxes.{ListboxState}
 use Rattle.tk_widgets.specs.Commands.{is_within}
 use Rattle.tk_widgets.specs.Outcomes.{change, edit}
 
@@ -28,11 +28,11 @@ edit_beyond edited h = let e : leb (length edited.text) 65536 ≡ false = grind 
 
 pub ruleset edits = (edit_within, edit_beyond)
 
-pub listed_within : (listbox : Held) → length (list_form (texts listbox.items)) ≤ 65536 → is_within listbox ≡ true
+pub listed_within : (listbox : ListboxState) → length (list_form (texts listbox.items)) ≤ 65536 → is_within listbox ≡ true
 unfolding is_within
 listed_within listbox h = grind (arith, nat_tests)
 
-pub listed_beyond : (listbox : Held) → 65536 < length (list_form (texts listbox.items)) → is_within listbox ≡ false
+pub listed_beyond : (listbox : ListboxState) → 65536 < length (list_form (texts listbox.items)) → is_within listbox ≡ false
 unfolding is_within
 listed_beyond listbox h = grind (arith, nat_tests)
 

@@ -4,8 +4,8 @@ use Rattle.std.specs.Option.{option_map_or}
 use Rattle.std.specs.Str.{bytes_eq}
 use Rattle.tcl_text.specs.Indices.{from_zero}
 use Rattle.tcl_text.specs.Readings.{list_form}
-use Rattle.tk_entry.specs.Entries.{shown}
-use Rattle.tk_listbox.specs.Items.{texts}
+use Rattle.tk_widgets.specs.Entries.{shown}
+use Rattle.tk_widgets.specs.Items.{texts}
 use Rattle.tk_options.specs.declared.option.OptionEntry.{OptionEntry}
 use Rattle.tk_options.specs.declared.option.OptionName.{OptionName}
 use Rattle.tk_options.specs.declared.option.OptionName.TheVariants.{Command, Relief, State}

@@ -4,11 +4,10 @@ use Rattle.std.specs.Option.{option_or}
 use Rattle.std.specs.Str.{bytes_eq}
 use Rattle.tcl_text.specs.Answers.{◌>>=◌, answers, bad_option, limit_text, wrong_args}
 use Rattle.tcl_text.specs.Readings.{list_form}
-use Rattle.tk_entry.specs.declared.entry.Entry.{Entry as EntryText}
-use Rattle.tk_listbox.specs.Items.{texts}
-use Rattle.tk_listbox.specs.Listboxes.{Held, activated, deleted, inserted, selected}
+use Rattle.tk_widgets.specs.declared.entry.Entry.{Entry as EntryText}
+use Rattle.tk_widgets.specs.Items.{texts}
+use Rattle.tk_widgets.specs.Listboxes.{ListboxState, activated, deleted, inserted, selected}
 use Rattle.tk_options.specs.declared.option.OptionEntry.{OptionEntry}
-use Rattle.tk_options.specs.declared.option.OptionName.{OptionName}
 use Rattle.tk_options.specs.declared.option.OptionName.TheVariants.{Text, TextVariable}
 use Rattle.tk_options.specs.declared.settings.Setting.{Setting}
 use Rattle.tk_options.specs.Options.{description, last_setting, meant, settings, value_meant, value_of, with_settings}
@@ -98,15 +97,15 @@ entry_edited edit parts = parts
 abbrev pub with_entry : (EntryText → EntryText) → Widget → Widget
 with_entry edit widget = record widget { parts = entry_edited edit widget.parts }
 
-abbrev pub listbox_edited : (Held → Held) → Parts → Parts
+abbrev pub listbox_edited : (ListboxState → ListboxState) → Parts → Parts
 listbox_edited edit (Listbox listbox) = Listbox (edit listbox)
 listbox_edited edit parts = parts
 
-abbrev pub with_listbox : (Held → Held) → Widget → Widget
+abbrev pub with_listbox : (ListboxState → ListboxState) → Widget → Widget
 with_listbox edit widget = record widget { parts = listbox_edited edit widget.parts }
 
 -- `insert` of a listbox is refused where the list of all items would be past the limit
-unfoldable pub is_within : Held → Bool
+unfoldable pub is_within : ListboxState → Bool
 is_within listbox = nat_le (length (list_form (texts listbox.items))) most_bytes
 
 abbrev pub is_listed : Parts → Bool

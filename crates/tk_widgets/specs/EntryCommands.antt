@@ -1,12 +1,12 @@
 -- Meaning. The sub-commands of an entry (entry(n)), each from the words behind its name. `text` is the variable's, where it can be read.
-use Rattle.std.specs.Prelude.{ℕ, ◌+◌, if◌then◌else◌, List, [], ◌∷◌, Option, Some, None, unwrap_or, Result, Ok, Err, codes}
+use Rattle.std.specs.Prelude.{ℕ, ◌+◌, if◌then◌else◌, List, [], ◌∷◌, Option, Some, None, unwrap_or, Result, Ok, codes}
 use Rattle.std.specs.Fmt.{decimal}
 use Rattle.std.specs.Map.{lookup}
 use Rattle.std.specs.Str.{bytes_eq}
 use Rattle.tcl_text.specs.Answers.{◌>>=◌, answers, bad_index, bad_option, wrong_args}
-use Rattle.tk_entry.specs.declared.entry.Entry.{Entry}
+use Rattle.tk_widgets.specs.declared.entry.Entry.{Entry}
 use Rattle.tcl_text.specs.Characters.{size}
-use Rattle.tk_entry.specs.Entries.{shown, cursor_in, index_in, inserted, deleted, edited, by_text, by_backspace, by_delete}
+use Rattle.tk_widgets.specs.Entries.{shown, cursor_in, index_in, inserted, deleted, edited, by_text, by_backspace, by_delete}
 use Rattle.tk_options.specs.declared.option.OptionEntry.{OptionEntry}
 use Rattle.tk_options.specs.declared.option.OptionName.TheVariants.{State}
 use Rattle.tk_widgets.specs.declared.entry_commands.EntryEdit.{EntryEdit}

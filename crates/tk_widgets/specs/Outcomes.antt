@@ -2,7 +2,7 @@
 use Rattle.std.specs.Prelude.{◌≡◌, ℕ, nat_le, if◌then◌else◌, List, [], length, Option, Some, None, Result, Ok, Err}
 use Rattle.tcl_text.specs.Answers.{Answer, Gives, bounded, limit_text}
 use Rattle.tcl_text.specs.declared.commands.answers.Refusal.{Refusal}
-use Rattle.tk_entry.specs.declared.entry.Entry.{Entry}
+use Rattle.tk_widgets.specs.declared.entry.Entry.{Entry}
 use Rattle.tk_options.specs.declared.fault.OptionFault.{OptionFault}
 use Rattle.tk_options.specs.FaultTexts.{fault_text}
 use Rattle.tk_widgets.specs.declared.outcome.WidgetRequest.{WidgetRequest}

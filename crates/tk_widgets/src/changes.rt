@@ -2,18 +2,17 @@
 ghost use Rattle.std.specs.Prelude.{◌≡◌, [], Ok, Err, true, IfOk, IfErr, OnOk, OnErr};
 ghost use Rattle.std.specs.Option.{option_copied};
 ghost use Rattle.tcl_text.specs.Answers.{Gives};
-ghost use Rattle.tk_listbox.specs.Listboxes.{activated, deleted, inserted, selected};
+ghost use Rattle.tk_widgets.specs.Listboxes.{activated, deleted, inserted, selected};
 ghost use Rattle.tk_options.specs.Options.{last_setting, with_settings};
 ghost use Rattle.tk_widgets.specs.Commands as spec;
 ghost use Rattle.tk_widgets.specs.declared.widget.Widget.{Widget};
 
 use crate::outcome::{VariableWrite, WidgetAct, WidgetChange};
 use crate::widget::{Parts, Widget};
+use crate::{Choice, Entry};
 use std::alloc::{AllocError, Global};
 use tcl_text::answers::{Refusal, limit_reached};
 use tcl_text::{Text, TextFault};
-use tk_entry::Entry;
-use tk_listbox::Choice;
 use tk_options::{OptionName, Settings};
 
 impl Widget {

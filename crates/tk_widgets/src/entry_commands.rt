@@ -5,6 +5,7 @@ ghost use Rattle.tcl_text.specs.Answers.{Gives};
 ghost use Rattle.tk_widgets.specs.EntryCommands as spec;
 ghost use Rattle.tcl_text.specs.Limits.{most_bytes};
 
+use crate::Entry;
 use crate::classes::has_value;
 use crate::outcome::{WidgetChange, WidgetRequest, nothing, told};
 use std::alloc::Global;
@@ -12,7 +13,6 @@ use tcl_text::answers::{
     Refusal, bad_index, bad_option, decimal_answer, limit_reached, wrong_args,
 };
 use tcl_text::{Text, TextFault};
-use tk_entry::Entry;
 use tk_options::{OptionName, OptionTable};
 
 /// An edit of an entry's text. Places count characters.

@@ -5,6 +5,7 @@ ghost use Rattle.tcl_text.specs.Answers.{Gives, answers};
 ghost use Rattle.tk_widgets.specs.ListboxCommands as spec;
 
 use crate::outcome::{WidgetChange, WidgetRequest, told};
+use crate::{Choice, ItemIndex, Listbox};
 use itoa::Buffer;
 use std::alloc::{AllocError, Global};
 use tcl_text::answers::{
@@ -13,7 +14,6 @@ use tcl_text::answers::{
 };
 use tcl_text::items::list_answer;
 use tcl_text::{Text, TextList};
-use tk_listbox::{Choice, ItemIndex, Listbox};
 
 /// The items from a place on and before another.
 #[derive(Clone, Copy)]

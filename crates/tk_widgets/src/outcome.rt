@@ -2,9 +2,8 @@
 ghost use Rattle.std.specs.Prelude.{◌≡◌, Ok};
 ghost use Rattle.tk_widgets.specs.Outcomes.{nothing, told};
 
+use crate::{Choice, Entry};
 use tcl_text::{Text, TextList};
-use tk_entry::Entry;
-use tk_listbox::Choice;
 use tk_options::Settings;
 
 /// What a widget's command answers.

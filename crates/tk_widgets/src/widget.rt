@@ -4,11 +4,10 @@ ghost use Rattle.std.specs.Option.{option_copied};
 ghost use Rattle.tk_widgets.specs.Sizes.{requested, new_parts, new_widget, text_size, text_shown};
 
 use crate::size::{entry_size, frame_size, listbox_size, text_shown, text_size};
+use crate::{Entry, Listbox};
 use std::alloc::{AllocError, Global};
 use tcl_text::Text;
 use tk_base::Kind;
-use tk_entry::Entry;
-use tk_listbox::Listbox;
 use tk_options::OptionTable;
 
 /// A widget (options(n)): its options, and what its kind has beside them. The calls take the text of the variable that `-textvariable` names, where
@@ -29,7 +28,7 @@ pub enum Parts {
     Button,
     /// The text of an entry, with its cursor (entry(n)).
     Entry(Entry),
-    /// The items of a listbox, and which are chosen (listbox(n)).
+    /// The items of a listbox, and which are selected (listbox(n)).
     Listbox(Listbox),
 }
 

@@ -9,5 +9,5 @@ pub returns-clause-does : goal.returns-clause-does
 returns-clause-does c =
     subst (λ done. Does c.change.result c.change.new.scopes done)
     (appends c.as_str.result c.args.values.now c.args.level c.args.name.now c.args.scopes.now
-    (c.as_str.ensures.value ∙ c.in_ok-push_all.ensures ∙ ap (λ t. t ++ concat c.args.values.now) c.new-more.ensures.bytes))
+    (c.as_str.ensures.value ∙ c.in_ok-push_all.ensures ∙ ap (λ t. t ++ concat c.args.values.now) c.in_ok-more.ensures.bytes))
     c.change.ensures.does

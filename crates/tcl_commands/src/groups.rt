@@ -1,0 +1,143 @@
+ghost use Rattle.std.specs.Prelude.{◌≡◌, ◌++◌, map, length, IfOk};
+ghost use Rattle.std.specs.List.{list_any};
+ghost use Rattle.tcl_text.specs.Readings.{list_of};
+ghost use Rattle.tcl_commands.specs.Ahead.{FollowsGroup};
+ghost use Rattle.tcl_commands.specs.Groups.{group_named, group_of, groups_from, groups_of, has_body, next_place, advanced, has_more};
+
+use crate::listing::Listing;
+use std::alloc::{AllocError, Global};
+use tcl_text::{ListItems, SplitFault, Text, TextList};
+
+/// A list of names of `foreach`, and its list of items (foreach(n)).
+#[derive(Drop)]
+pub struct Group {
+    /// The variables that take the items, one each in a turn.
+    pub names: TextList,
+    /// The items of all turns, shared with the text where it keeps them.
+    pub items: ListItems,
+    /// How many of the items were taken in the turns before.
+    pub next: usize,
+}
+
+/// The groups of a `foreach`, in the order of its words.
+pub type Groups = Listing<Group>;
+
+impl Listing<Group> {
+    /// Whether a group has items left: `foreach` takes another turn then (foreach(n)).
+    pub fn has_more(&self) -> bool
+        ensures { result ≡ list_any has_more self.now }
+    {
+        self.as_slice()
+            .iter()
+            .any(|group| group.next < group.items.len())
+    }
+
+    /// The groups behind one more turn: each has given an item to each of its names, or all that were left.
+    pub fn advanced(self, alloc: Global) -> Result<Groups, AllocError>
+        ensures { IfOk result (λ groups. groups ≡ map advanced self) }
+    {
+        let mut groups = Listing::new(alloc);
+        'turn: for group in self.into_vec() {
+            groups.push(past_turn(group))?;
+        }
+        Ok(groups)
+    }
+}
+
+fn past_turn(group: Group) -> Group
+    ensures { result ≡ advanced group }
+{
+    let Group { names, items, next } = group;
+    let next = next_place(names.len(), items.len(), next);
+    Group { names, items, next }
+}
+
+fn next_place(names: usize, items: usize, next: usize) -> usize
+    ensures { result ≡ next_place names items next }
+{
+    if next < items && names < items - next {
+        next + names
+    } else {
+        items
+    }
+}
+
+/// A list of items behind its names, or the error's text.
+fn group_named(
+    alloc: Global,
+    names: TextList,
+    items: &Text,
+) -> Result<Result<Group, Text>, AllocError>
+    ensures { IfOk result (λ group. group ≡ group_named names (list_of items.now)) }
+{
+    match items.list_items(alloc) {
+        Ok(items) => Ok(Ok(Group {
+            names,
+            items,
+            next: 0,
+        })),
+        Err(SplitFault::BadList(fault)) => Ok(Err(fault.told(alloc)?)),
+        Err(SplitFault::NoMemory) => Err(AllocError),
+    }
+}
+
+/// A list of names and a list of items, or the error's text.
+fn group_of(alloc: Global, names: &Text, items: &Text) -> Result<Result<Group, Text>, AllocError>
+    ensures { IfOk result (λ group. group ≡ group_of (list_of names.now) (list_of items.now)) }
+{
+    match names.split_list(alloc) {
+        Ok(names) => {
+            if names.is_empty() {
+                return Ok(Err(Text::of_short(alloc, "foreach varlist is empty")?));
+            }
+            group_named(alloc, names, items)
+        }
+        Err(SplitFault::BadList(fault)) => Ok(Err(fault.told(alloc)?)),
+        Err(SplitFault::NoMemory) => Err(AllocError),
+    }
+}
+
+/// One more word of `foreach`: names are held until their items go with them to the groups.
+fn next_group(
+    alloc: Global,
+    groups: &mut Groups,
+    held: Option<Text>,
+    word: &Text,
+) -> Result<Result<Option<Text>, Text>, AllocError>
+    ensures { IfOk result (λ next. FollowsGroup held word.now groups.old next groups.new) }
+{
+    match held {
+        None => Ok(Ok(Some(word.copy()?))),
+        Some(names) => match group_of(alloc, &names, word)? {
+            Ok(group) => {
+                groups.push(group)?;
+                Ok(Ok(None))
+            }
+            Err(text) => Ok(Err(text)),
+        },
+    }
+}
+
+/// The names and items of `foreach`, up to a last word alone, by the words behind its name (foreach(n)). Or the text of the first error: a
+/// word is no list (3), or a list of names is empty.
+#[tactic(auto, unfolding(crate::specs::Groups::groups_of))]
+pub fn foreach_groups(alloc: Global, words: &[Text]) -> Result<Result<Groups, Text>, AllocError>
+    ensures { IfOk result (λ groups. groups ≡ groups_of words.now) }
+{
+    let mut groups = Listing::new(alloc);
+    let mut held = None;
+    for word in words {
+        match next_group(alloc, &mut groups, held, word)? {
+            Ok(next) => held = next,
+            Err(text) => return Ok(Err(text)),
+        }
+    }
+    Ok(Ok(groups))
+}
+
+/// Whether a body stands behind the names and items of `foreach`: the words behind its name are odd in number (foreach(n)).
+pub fn has_body(words: &[Text]) -> bool
+    ensures { result ≡ has_body words.now }
+{
+    words.len() % 2 == 1
+}

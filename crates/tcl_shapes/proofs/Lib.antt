@@ -1,4 +1,0 @@
-pub mod ChoicesCut
-pub mod PairsCut
-pub mod ShapeExamples
-pub mod ShapeLemmas

@@ -1,7 +1,0 @@
-use Rattle.std.proofs.Common.{◌≡◌, ◌++◌, map}
-use Rattle.std.specs.Vec.Iter.{into_iter_items}
-use Rattle.tcl_shapes.specs.Groups.{advanced}
-use Rattle.tcl_shapes.proofs.groups.Listing+Group.advanced.Given as goal
-
-abbrev pub invariant-turn : goal.invariant-turn
-invariant-turn l = l.groups ++ map advanced (into_iter_items l.group-iterator) ≡ map advanced l.fn.self

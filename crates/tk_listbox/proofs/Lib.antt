@@ -1,3 +1,0 @@
--- Lemmas.
-pub mod Chosen
-pub mod Lists

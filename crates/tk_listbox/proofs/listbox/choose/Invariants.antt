@@ -1,7 +1,0 @@
-use Rattle.std.proofs.Common.{◌≡◌, ◌++◌, take, drop}
-use Rattle.tk_listbox.specs.Listboxes.{chosen_by}
-use Rattle.tk_listbox.proofs.listbox.choose.Given as goal
-
--- those before the place are chosen, and the others are as they were
-abbrev pub invariant-loop-place : goal.invariant-loop-place
-invariant-loop-place l = l.items ≡ chosen_by l.how 0 (take l.place l.fn.items) ++ drop l.place l.fn.items

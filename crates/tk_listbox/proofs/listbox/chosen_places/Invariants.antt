@@ -1,7 +1,0 @@
-use Rattle.std.proofs.Common.{◌≡◌, ◌++◌, drop}
-use Rattle.tk_listbox.specs.Items.{chosen_from}
-use Rattle.tk_listbox.proofs.listbox.chosen_places.Given as goal
-
--- the places so far, with those of the rest
-abbrev pub invariant-loop-place : goal.invariant-loop-place
-invariant-loop-place l = l.list.items ++ chosen_from l.place (drop l.place l.items) ≡ chosen_from 0 l.items

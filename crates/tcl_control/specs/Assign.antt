@@ -2,7 +2,7 @@
 use Rattle.std.specs.Prelude.{ℕ, List, [], ◌∷◌, drop, Option, Some, None, Result, Ok, Err}
 use Rattle.tcl_vars.specs.Store.{Store, with_variable}
 use Rattle.tcl_text.specs.declared.fault.SetFault.{SetFault}
-use Rattle.tcl_shapes.specs.declared.groups.Group.{Group}
+use Rattle.tcl_commands.specs.declared.groups.Group.{Group}
 use Rattle.tcl_table.specs.Texts.{cannot_set_text}
 
 -- the variables then, and the text of the first refusal, which leaves what was set before

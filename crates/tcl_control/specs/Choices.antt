@@ -5,9 +5,9 @@ use Rattle.tcl_text.specs.Glob.{glob_matches}
 use Rattle.tcl_text.specs.Readings.{list_of}
 use Rattle.tcl_text.specs.FaultTexts.{list_text}
 use Rattle.tcl_text.specs.declared.fault.ListFault.{ListFault}
-use Rattle.tcl_shapes.specs.Branches.{choices_of, arms_of}
-use Rattle.tcl_shapes.specs.declared.branches.Branch.{Branch}
-use Rattle.tcl_shapes.specs.declared.branches.Choices.{Choices}
+use Rattle.tcl_commands.specs.Branches.{choices_of, arms_of}
+use Rattle.tcl_commands.specs.declared.branches.Branch.{Branch}
+use Rattle.tcl_commands.specs.declared.branches.Choices.{Choices}
 use Rattle.tcl_control.specs.declared.choices.Matching.{Matching}
 use Rattle.tcl_control.specs.declared.choices.Matching.TheVariants.{Exact, Glob}
 use Rattle.tcl_control.specs.declared.code.Code.TheVariants.{Normal}

@@ -18,8 +18,8 @@ use Rattle.tcl_control.specs.declared.plan.Plan.{Plan}
 use Rattle.tcl_control.specs.declared.plan.Plan.TheVariants.{Ends, Runs, Catches, RunsAt, Evaluates, Turns, Starts}
 use Rattle.tcl_control.specs.declared.turns.Test.TheVariants.{Holds, Items}
 use Rattle.tcl_control.specs.declared.turns.Turning.{Turning}
-use Rattle.tcl_shapes.specs.Groups.{groups_of, has_body}
-use Rattle.tcl_shapes.specs.declared.groups.Group.{Group}
+use Rattle.tcl_commands.specs.Groups.{groups_of, has_body}
+use Rattle.tcl_commands.specs.declared.groups.Group.{Group}
 use Rattle.tcl_control.specs.declared.usages.Usage.{Usage}
 use Rattle.tcl_control.specs.declared.usages.Usage.TheVariants as usage
 use Rattle.tcl_control.specs.Usages.{misused_text}

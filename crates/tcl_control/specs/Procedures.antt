@@ -2,8 +2,8 @@
 use Rattle.std.specs.Prelude.{ℕ, ◌==◌, nat_le, nat_lt, Bool, true, false, ◌||◌, ◌&&◌, List, [], ◌∷◌, ◌++◌, length, drop, if◌then◌else◌, Option, Some, None, is_some, unwrap_or, Result, Ok, Err, codes, bytes_eq}
 use Rattle.tcl_text.specs.Readings.{list_of, list_form}
 use Rattle.tcl_vars.specs.Store.{Store, with_variable}
-use Rattle.tcl_shapes.specs.Parameters.{parameters_in}
-use Rattle.tcl_shapes.specs.declared.parameters.Parameter.{Parameter}
+use Rattle.tcl_commands.specs.Parameters.{parameters_in}
+use Rattle.tcl_commands.specs.declared.parameters.Parameter.{Parameter}
 use Rattle.tcl_table.specs.declared.command.Command.{Command}
 use Rattle.tcl_table.specs.declared.command.Command.TheVariants as command
 use Rattle.tcl_control.specs.declared.context.Context.{Context}

@@ -1,8 +1,8 @@
 -- Meaning. The tests of loops over lists.
 use Rattle.std.specs.Prelude.{ℕ, Bool, true, false, List, map, if◌then◌else◌, Option, Some, None}
 use Rattle.std.specs.List.{list_any}
-use Rattle.tcl_shapes.specs.Groups.{advanced, has_more}
-use Rattle.tcl_shapes.specs.declared.groups.Group.{Group}
+use Rattle.tcl_commands.specs.Groups.{advanced, has_more}
+use Rattle.tcl_commands.specs.declared.groups.Group.{Group}
 use Rattle.tcl_control.specs.Assign.{Assigned, groups_assigned}
 use Rattle.tcl_vars.specs.Store.{Store}
 use Rattle.tcl_control.specs.declared.turns.Verdict.{Verdict}

@@ -3,7 +3,7 @@ ghost use Rattle.tcl_vars.specs.Store.{with_variable};
 ghost use Rattle.tcl_control.specs.Assign.{done, on_set, first_item, assigned, groups_assigned};
 
 use std::alloc::{AllocError, Global};
-use tcl_shapes::Group;
+use tcl_commands::Group;
 use tcl_text::{ListItems, Text};
 use tcl_vars::{Scopes, SetFault};
 

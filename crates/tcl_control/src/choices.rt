@@ -1,6 +1,6 @@
 ghost use Rattle.std.specs.Prelude.{◌≡◌, ◌∷◌, [], IfOk};
 ghost use Rattle.tcl_text.specs.Readings.{list_of};
-ghost use Rattle.tcl_shapes.specs.Branches.{choices_of, arms_of};
+ghost use Rattle.tcl_commands.specs.Branches.{choices_of, arms_of};
 ghost use Rattle.tcl_control.specs.Choices.{if_plan, ends_open, is_dash, matches, takes, body_of, arm_for, by_arms, by_pairs, switched, switched_past, switch_plan, no_body};
 ghost use Rattle.tcl_control.specs.Commands.{bad_option_plan};
 
@@ -8,7 +8,7 @@ use crate::code::Code;
 use crate::plan::{Plan, fails};
 use crate::usages::{Usage, misused};
 use std::alloc::{AllocError, Global};
-use tcl_shapes::{Branch, if_choices, switch_arms};
+use tcl_commands::{Branch, if_choices, switch_arms};
 use tcl_table::Source;
 use tcl_text::message::bad_option_text;
 use tcl_text::{SplitFault, Text};

@@ -1,6 +1,6 @@
 ghost use Rattle.std.specs.Option.{option_copied};
 ghost use Rattle.std.specs.Prelude.{◌≡◌, IfOk, IsSome, OnOk, Ok};
-ghost use Rattle.tcl_shapes.specs.Parameters.{parameters_in};
+ghost use Rattle.tcl_commands.specs.Parameters.{parameters_in};
 ghost use Rattle.tcl_text.specs.Readings.{list_of};
 ghost use Rattle.tcl_table.specs.Names.{plain_name};
 ghost use Rattle.tcl_control.specs.Procedures.{holds_procedure, has_room, table_changed, defined, cannot_use, with_procedure, name_refused, named_anew, with_new_name};
@@ -8,7 +8,7 @@ ghost use Rattle.tcl_table.specs.Table.{value_at, with_value, without};
 ghost use Rattle.tcl_table.specs.declared.command.Command.{Command as CommandValue};
 
 use std::alloc::{AllocError, Global};
-use tcl_shapes::{Parameters, parameters_in};
+use tcl_commands::{Parameters, parameters_in};
 use tcl_table::{Command, CommandTable, Procedure, Source, is_dotted, plain_name};
 use tcl_text::Text;
 use tcl_text::message::{about_between, bad_name_text};

@@ -4,7 +4,7 @@ ghost use Rattle.tcl_control.specs.Commands as spec;
 use crate::code::Code;
 use crate::expression::Expression;
 use crate::turns::Looping;
-use tcl_shapes::Choices;
+use tcl_commands::Choices;
 use tcl_table::Source;
 use tcl_text::Text;
 

@@ -9,7 +9,7 @@ use crate::assign::set_one;
 use crate::code::Code;
 use crate::plan::Plan;
 use std::alloc::{AllocError, Global};
-use tcl_shapes::Parameter;
+use tcl_commands::Parameter;
 use tcl_table::{Levels, Procedure, plain_name};
 use tcl_text::message::{limit, wrong_args_text};
 use tcl_text::{Text, TextFault};

@@ -5,7 +5,7 @@ use crate::assign::assign_groups;
 use crate::expression::Expression;
 use std::alloc::{AllocError, Global};
 use std::marker::Model;
-use tcl_shapes::Groups;
+use tcl_commands::Groups;
 use tcl_table::Source;
 use tcl_text::Text;
 use tcl_vars::Scopes;

@@ -1,6 +1,6 @@
 -- The branches of `if` from a place on.
 use Rattle.std.proofs.Common.{◌≡◌, ℕ, zero, suc, ◌+◌, ◌≤◌, ◌<◌, ◌==◌, ◌∙◌, Bool, true, false, true≢false, List, [], ◌∷◌, length, drop, get_or, Option, Ok, refl, ap, sym, arith, add-one}
-use Rattle.tcl_shapes.specs.declared.branches.Branch.{Branch}
+use Rattle.tcl_commands.specs.declared.branches.Branch.{Branch}
 use Rattle.tcl_interp.specs.Finish.{Begins, Waiting, ForChoice}
 use Rattle.tcl_interp.specs.Moves.{moved, expression_begins, otherwise_move, choice_move, chosen_move}
 

@@ -15,8 +15,8 @@ use Rattle.tcl_control.specs.declared.plan.Plan.{Plan}
 use Rattle.tcl_control.specs.declared.plan.Plan.TheVariants as plan
 use Rattle.tcl_control.specs.declared.turns.Test.{Test}
 use Rattle.tcl_control.specs.declared.turns.Test.TheVariants.{Holds, Items}
-use Rattle.tcl_shapes.specs.declared.branches.Branch.{Branch}
-use Rattle.tcl_shapes.specs.declared.groups.Group.{Group}
+use Rattle.tcl_commands.specs.declared.branches.Branch.{Branch}
+use Rattle.tcl_commands.specs.declared.groups.Group.{Group}
 use Rattle.tcl_expr.specs.declared.fault.EvalFault.{EvalFault}
 use Rattle.tcl_expr.specs.Run.{Run as Evaluating, AsksVariable, AsksElement, AsksCommand, Ends}
 use Rattle.tcl_expr.specs.Trees.{Tree, evaluation}

@@ -2,7 +2,7 @@
 use Rattle.std.proofs.Common.{◌≡◌, ℕ, zero, suc, ◌+◌, ◌<◌, ◌≤◌, Bool, true, false, cond, List, [], ◌∷◌, ◌++◌, length, drop, get_or, nat_le, Option, Some, None, IfSome, Result, Ok, Err, refl, ap, sym, subst, ◌∙◌, arith, add-one}
 use Rattle.std.proofs.lemmas.Bool.Decides.{nat_tests}
 use Rattle.std.specs.Fmt.{signed_decimal}
-use Rattle.std.specs.Prelude.{ℤ}
+use Rattle.std.specs.Prelude.{ℤ, OnErr}
 use Rattle.tcl_text.specs.declared.fault.ParseFault.{ParseFault}
 use Rattle.tcl_words.specs.declared.script.Command.{Command}
 use Rattle.tcl_words.specs.declared.script.Word.{Word}
@@ -60,6 +60,11 @@ none left = omega arith
 
 fits : (text : List ℕ) → length text ≤ 65536 → nat_le (length text) 65536 ≡ true
 fits text short = grind (arith, nat_tests, short)
+
+-- what holds, where a call fails
+pub on_err : {T E : Type 0} (r : Result T E) (Q : Type 0) → Q → OnErr r Q
+on_err (Ok value) Q holds = tt
+on_err (Err fault) Q holds = holds
 
 module _ {S K : Type 0} (outside : Outside S K) where
   abbrev calls_in : ℕ → List (List ℕ) → State S → Outcome S
@@ -187,6 +192,26 @@ module _ {S K : Type 0} (outside : Outside S K) where
       let own : ExprGives store context level only.words value = subst (λ ws. ExprGives store context level ws value) is gives in
       expr_gives room level store context script only own.0 own.1 value some parsed own.2 own.3 own.4 own.5 own.6 own.7 at_level own.8
   if_expr_gives room level store context script only words None some parsed is at_level gives = gives
+
+  -- ── commands on texts ──
+
+  -- a script of one command that ends at once with this text
+  text_script : (room : ℕ) (store : Store) (context : Context) (script : List ℕ) (only : Command) (words : List (List ℕ)) (count : ℕ) (text : List ℕ) → script_of script ≡ Ok (only ∷ []) → 0 < length words
+      → WordsLead outside room store context only.words [] count [] words → EndsCall outside words store context store Normal text → GivesScript outside (suc room) script store context (count + 1) text
+  text_script room store context script only [] count text parsed some leads ends = absurd (omega (arith, some))
+  text_script room store context script only (name ∷ arguments) count text parsed some leads ends = λ shows left.
+      let state = state_with shows store context (count + suc left) in
+      let sum : (count + 1) + left ≡ count + suc left = omega arith in
+      ap (λ n. script_meaning outside (suc room) script (state_with shows store context n)) sum
+      ∙ ap (on_parsed (λ commands. commands_meaning (run_in outside room) (calls_in room) commands [] state) state) parsed
+      ∙ ap (λ o. and_then o (on_normal (λ s r. commands_meaning (run_in outside room) (calls_in room) [] r s)))
+      (leads shows (suc left) (called (run_in outside room) (calls_in room)) ∙ ends room shows left)
+
+  -- where there is room for it
+  pub text_gives : (room below : ℕ) (store : Store) (context : Context) (script : List ℕ) (only : Command) (words : List (List ℕ)) (count : ℕ) (text : List ℕ) → room ≡ suc below → script_of script ≡ Ok (only ∷ []) → 0 < length words
+      → WordsLead outside below store context only.words [] count [] words → EndsCall outside words store context store Normal text → GivesScript outside room script store context (count + 1) text
+  text_gives room below store context script only words count text is parsed some leads ends =
+      subst (λ r. GivesScript outside r script store context (count + 1) text) (sym is) (text_script below store context script only words count text parsed some leads ends)
 
   -- ── calls ──
 

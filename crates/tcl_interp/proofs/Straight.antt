@@ -24,7 +24,7 @@ use Rattle.tcl_control.specs.declared.turns.Turning.{Turning}
 use Rattle.tcl_control.specs.declared.turns.Test.TheVariants.{Holds}
 use Rattle.tcl_control.specs.Expressions.{truth_of_text, truth_or_text}
 use Rattle.tcl_control.specs.Levels.{here}
-use Rattle.tcl_shapes.specs.declared.branches.Branch.{Branch}
+use Rattle.tcl_commands.specs.declared.branches.Branch.{Branch}
 use Rattle.tcl_interp.specs.Finish.{Evaluates, Ends, Waiting, ForTest, ForChoice}
 use Rattle.tcl_interp.specs.Moves.{Standing, moved, standing, value_given, begun_as, expression_begins, choice_move, chosen_move, turn_move, test_move, end_move}
 use Rattle.tcl_interp.specs.Openings.{IsInteger, Knows}

@@ -10,6 +10,8 @@ use Rattle.tcl_text.specs.declared.fault.ParseFault.{ParseFault}
 use Rattle.tcl_text.specs.declared.fault.ParseFault.TheVariants.{TooLong}
 use Rattle.tcl_text.specs.FaultTexts.{list_text, parse_text as text_of}
 use Rattle.tcl_words.proofs.Parses.{one_index_parse}
+use Rattle.tcl_words.specs.Grammar.{IsIndexParse}
+use Rattle.tcl_words.specs.One.{One}
 use Rattle.tcl_vars.specs.Store.{Store, variable_in, element_in}
 use Rattle.tcl_text.specs.declared.fault.ReadFault.{ReadFault}
 use Rattle.tcl_control.specs.declared.code.Code.{Code}
@@ -77,10 +79,14 @@ abbrev pub on_words : {S : Type 0} → State S → (State S → List (List ℕ) 
 on_words state after (Ok words) = after state words
 on_words state after (Err text) = Ended state Error text
 
--- What a text is as the index of an element: its pieces, or its fault. It is the one thing that the grammar of scripts relates to
--- the text (`IsIndexParse` in tcl_words), as the type of `one_index_parse` says.
+-- The grammar of indices relates one thing to each text, its pieces or its fault, and no other. This type says what it is; the proof behind it says
+-- that it is there.
+abbrev pub only_index_parse : (text : List ℕ) → One (IsIndexParse text)
+only_index_parse text = one_index_parse text
+
+-- What a text is as the index of an element: the one thing that the grammar relates to it.
 unfoldable pub index_pieces : List ℕ → Result (List Piece) ParseFault
-index_pieces text = (one_index_parse text).it
+index_pieces text = (only_index_parse text).it
 
 -- an element is read, whose index is whole
 abbrev pub element_read : {S : Type 0} → List ℕ → State S → List ℕ → Outcome S

@@ -8,7 +8,7 @@ use Rattle.tcl_text.specs.declared.fault.ParseFault.{ParseFault}
 use Rattle.tcl_text.specs.declared.fault.ParseFault.TheVariants.{TooLong}
 use Rattle.tcl_text.specs.FaultTexts.{parse_text as text_of}
 use Rattle.tcl_vars.specs.Store.{Store, variable_in, element_in}
-use Rattle.tcl_shapes.specs.declared.branches.Branch.{Branch}
+use Rattle.tcl_commands.specs.declared.branches.Branch.{Branch}
 use Rattle.tcl_expr.specs.declared.ask.Ask.{Ask}
 use Rattle.tcl_expr.specs.declared.ask.Ask.TheVariants as ask
 use Rattle.tcl_expr.specs.declared.fault.EvalFault.{EvalFault}

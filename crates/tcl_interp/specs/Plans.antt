@@ -14,7 +14,7 @@ use Rattle.tcl_control.specs.Commands.{Ending, caught_ending}
 use Rattle.tcl_control.specs.Levels.{up, popped}
 use Rattle.tcl_control.specs.Texts.{break_outside, continue_outside}
 use Rattle.tcl_control.specs.Turns.{Tested, More, NoMore, Fails, items_tested}
-use Rattle.tcl_shapes.specs.declared.groups.Group.{Group}
+use Rattle.tcl_commands.specs.declared.groups.Group.{Group}
 use Rattle.tcl_interp.specs.Evaluation.{State, Outcome, Ended, OutOfSteps, seen_level, and_then, on_normal, with_step}
 use Rattle.tcl_interp.specs.Expressions.{if_holds, expression_meaning, condition_meaning, choices_meaning}
 

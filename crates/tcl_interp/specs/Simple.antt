@@ -1,4 +1,5 @@
--- Steps. Commands whose words are put together at once: what words, scripts in brackets and calls come to that leave all else as it is.
+-- Steps. Commands whose words are put together at once: what words and scripts in brackets come to that leave all else as it is, and, of calls, with
+-- which variables.
 use Rattle.std.specs.Prelude.{◌≡◌, ◌≤◌, ◌+◌, ℕ, ℤ, false, List, [], ◌∷◌, length, drop, Some, Ok}
 use Rattle.std.specs.Fmt.{signed_decimal}
 use Rattle.tcl_words.specs.declared.script.Word.{Word}

@@ -3,12 +3,12 @@ ghost use Rattle.tcl_interp.specs.declared.machine.Machine.TheVariants.{Spent as
 
 use crate::machine::{Frame, Machine, Now};
 use crate::slices::{Ran, run};
-use crate::stopped::{CommandPlace, places};
+use crate::stopped::{note_end, places};
 use crate::tasks::Tasks;
 use std::alloc::{AllocError, Global};
 use std::mem::replace;
 use tcl_control::{Code, Context};
-use tcl_table::{Levels, Source, first_commands};
+use tcl_table::{CommandPlace, ErrorNote, Levels, Source, first_commands};
 use tcl_text::Text;
 use tcl_vars::Scopes;
 
@@ -153,6 +153,12 @@ impl<K: Drop> Interp<K> {
         self.stopped.as_slice()
     }
 
+    /// The errors that ended scripts at global level, in the order in which they came: the first 64. They tell people where an error came from; no
+    /// script sees them, and nothing that runs hangs on them. An error that is caught leaves none. It takes no memory.
+    pub fn error_notes(&self) -> &[ErrorNote] {
+        self.context.commands.error_notes()
+    }
+
     /// Goes on with what is to be done now, for at most so many steps.
     fn run_on<T: Tasks<Task = K>>(
         &mut self,
@@ -186,6 +192,7 @@ impl<K: Drop> Interp<K> {
         )?;
         match ran {
             Ran::Ended(code, text) => {
+                note_end(&mut self.context.commands, code, &text)?;
                 self.machine = Machine::Idle;
                 Ok(SliceEnd::Done(code, text))
             }

@@ -24,7 +24,6 @@ pub use job::{Looked, Started, Task};
 pub use job_laws::{ends_looked, goes_on, steps_fall, unrolls};
 pub use jobs::{Acted, Jobs, act_for, look_at, resume};
 pub use leaving_laws::{scripts_leave, tasks_leave};
-pub use stopped::CommandPlace;
 pub use tasks::{Act, Tasks};
 pub use tcl_control::{Code, ReturnCode};
-pub use tcl_table::ScriptCache;
+pub use tcl_table::{CommandPlace, ErrorNote, ScriptCache};

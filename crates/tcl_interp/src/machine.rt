@@ -2,9 +2,9 @@ ghost use Rattle.std.specs.Prelude.{◌≡◌, ◌<◌, is_some, length, true};
 ghost use Rattle.tcl_expr.specs.Resuming.{is_waiting};
 
 use std::alloc::AllocError;
+use tcl_commands::Choices;
 use tcl_control::{Code, Looping};
 use tcl_expr::Eval;
-use tcl_shapes::Choices;
 use tcl_table::{Levels, Source};
 use tcl_text::{Text, TextList};
 use tcl_words::{Index, Script};

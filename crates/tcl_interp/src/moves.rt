@@ -14,6 +14,7 @@ use crate::expressions::{chosen, evaluate, turn};
 use crate::machine::{
     Answered, Asking, Choosing, Frame, Indexing, Next, Now, ScriptPlace, Wording,
 };
+use crate::stopped::{note_ended, note_part};
 use crate::words::{begin_for, go_on, is_plain, longer_index, longer_word, put_index};
 use std::alloc::{AllocError, Global};
 use tcl_control::{Code, Context, End, Looping, ReturnCode, STRAY_BREAK, STRAY_CONTINUE, caught};
@@ -249,21 +250,27 @@ pub fn after_command<K: Drop>(place: ScriptPlace, code: Code, text: Text) -> Now
 fn after_part<K: Drop>(
     alloc: Global,
     scopes: &Scopes,
-    context: &Context,
+    context: &mut Context,
     frames: &mut Vec<Frame<K>>,
     wording: Box<Wording>,
     code: Code,
     text: Text,
 ) -> Next<K>
-    ensures { IfOk result (λ now. moved_of now frames.new.items
-        ≡ after_part (here context.now.levels scopes.now) scopes.now (wording_of wording.value) (waits_of frames.old.items) code text) }
+    ensures context { context.new ≡ context.old }
+    ensures now { IfOk result (λ now. moved_of now frames.new.items
+        ≡ after_part (here context.old.levels scopes.now) scopes.now (wording_of wording.value) (waits_of frames.old.items) code text) }
 {
     match code {
         Code::Normal => {
             let level = context.levels.here(scopes);
-            longer_word(alloc, scopes, level, frames, wording, text)
+            let table = &mut context.commands;
+            longer_word(alloc, scopes, level, table, frames, wording, text)
         }
-        code => Ok(Now::Ends { code, text }),
+        code => {
+            let part = Box::into_inner(wording);
+            note_part(&mut context.commands, frames.as_slice(), &part, code)?;
+            Ok(Now::Ends { code, text })
+        }
     }
 }
 
@@ -350,7 +357,10 @@ pub fn ended<K: Drop>(
         ≡ end_move scopes.old context.old code text (waiting_of frame) (waits_of frames.old.items)) }
 {
     match frame {
-        Frame::ForCommand(place) => Ok(after_command(place, code, text)),
+        Frame::ForCommand(place) => {
+            note_ended(&mut context.commands, frames.as_slice(), &place, code)?;
+            Ok(after_command(place, code, text))
+        }
         Frame::ForPart(wording) => after_part(alloc, scopes, context, frames, wording, code, text),
         Frame::ForIndex(indexing) => after_index(alloc, indexing, code, text),
         Frame::ForValue { room, asking } => after_value(alloc, room, asking, code, text),
@@ -362,7 +372,10 @@ pub fn ended<K: Drop>(
         Frame::ForBody { room, turning } => after_body(alloc, frames, room, turning, code, text),
         Frame::ForNext { room, turning } => after_next(alloc, room, turning, code, text),
         Frame::ForStart { room, turning } => Ok(after_start(room, turning, code, text)),
-        Frame::ForCatch(name) => after_catch(alloc, scopes, context, frames, name, code, text),
+        Frame::ForCatch(name) => {
+            context.commands.forget_trail();
+            after_catch(alloc, scopes, context, frames, name, code, text)
+        }
         Frame::ForLevels(levels) => {
             context.levels.join(levels)?;
             Ok(Now::Ends { code, text })
@@ -403,7 +416,7 @@ pub enum Move<K> {
 fn command_ended<K: Drop>(
     alloc: Global,
     scopes: &Scopes,
-    context: &Context,
+    context: &mut Context,
     frames: &mut Vec<Frame<K>>,
     place: ScriptPlace,
     code: Code,
@@ -412,7 +425,7 @@ fn command_ended<K: Drop>(
 ) -> Result<Move<K>, AllocError>
     ensures { IfOk result (MoveGives pauses (standing
         (moved (Ends code text) (ForCommand place.room
-        (left_in place) ∷ waits_of frames.old.items)) scopes.now context.now) frames.new.items scopes.now context.now) }
+        (left_in place) ∷ waits_of frames.old.items)) scopes.now context.old) frames.new.items scopes.now context.new) }
 {
     match code {
         Code::Normal => {
@@ -423,10 +436,21 @@ fn command_ended<K: Drop>(
                 }));
             }
             let level = context.levels.here(scopes);
-            let now = go_on(alloc, scopes, level, frames, place, text)?;
+            let now = go_on(
+                alloc,
+                scopes,
+                level,
+                &mut context.commands,
+                frames,
+                place,
+                text,
+            )?;
             Ok(Move::Far(now))
         }
-        code => Ok(Move::On(Now::Ends { code, text })),
+        code => {
+            note_ended(&mut context.commands, frames.as_slice(), &place, code)?;
+            Ok(Move::On(Now::Ends { code, text }))
+        }
     }
 }
 
@@ -453,7 +477,15 @@ fn script_begins<K: Drop>(
                 return Ok(Move::On(Now::GoesOn { place, result }));
             }
             let level = context.levels.here(scopes);
-            let now = go_on(alloc, scopes, level, frames, place, result)?;
+            let now = go_on(
+                alloc,
+                scopes,
+                level,
+                &mut context.commands,
+                frames,
+                place,
+                result,
+            )?;
             Ok(Move::Far(now))
         }
         now => Ok(Move::On(now)),
@@ -493,7 +525,15 @@ fn advance<K: Drop>(
                 return Ok(Move::Due(Now::GoesOn { place, result }));
             }
             let level = context.levels.here(scopes);
-            let now = go_on(alloc, scopes, level, frames, place, result)?;
+            let now = go_on(
+                alloc,
+                scopes,
+                level,
+                &mut context.commands,
+                frames,
+                place,
+                result,
+            )?;
             Ok(Move::On(now))
         }
         Now::Ends { code, text } => match wake(frames) {

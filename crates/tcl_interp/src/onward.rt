@@ -1,6 +1,6 @@
 //! From command to command, where the machine need not make its moves one by one: scripts that have ended, scripts that begin and were read before,
 //! and tests of loops.
-ghost use Rattle.std.specs.Prelude.{◌≡◌, ◌<◌, ◌≤◌, ◌+◌, IfOk, List};
+ghost use Rattle.std.specs.Prelude.{◌≡◌, ◌<◌, ◌≤◌, ◌+◌, IfOk, List, OnErr};
 ghost use Rattle.tcl_vars.specs.Store.{Store};
 ghost use Rattle.tcl_interp.specs.Finish.{GoesOn, Waiting};
 ghost use Rattle.tcl_interp.specs.Moves.{moved, standing};
@@ -134,6 +134,7 @@ fn run_next<T: Tasks>(
     ensures counted { IfOk result (λ gone. gone.steps + left.new ≡ left.old) }
     ensures taken { left.new ≤ left.old }
     ensures within { left.old ≤ left.new + most }
+    ensures uncounted { OnErr result (left.new ≡ left.old → (scopes.new ≡ scopes.old) × (context.new ≡ context.old) × (T.shows tasks.new ≡ T.shows tasks.old)) }
     ensures left { T.left_alone tasks.new ≡ T.left_alone tasks.old }
 {
     match now {
@@ -142,6 +143,9 @@ fn run_next<T: Tasks>(
                 alloc, tasks, scopes, context, frames, place, result, most, left,
             )?;
             let steps = gone.steps;
+            if steps == 0 {
+                return Ok(gone);
+            }
             let now = onward(alloc, scopes, context, frames, gone.now)?;
             Ok(Gone { now, steps })
         }
@@ -175,6 +179,7 @@ pub fn run_commands<T: Tasks>(
     ensures counted { IfOk result (λ gone. gone.steps + left.new ≡ left.old) }
     ensures taken { left.new ≤ left.old }
     ensures within { left.old ≤ left.new + most }
+    ensures uncounted { OnErr result (left.new ≡ left.old → (scopes.new ≡ scopes.old) × (context.new ≡ context.old) × (T.shows tasks.new ≡ T.shows tasks.old)) }
     ensures left { T.left_alone tasks.new ≡ T.left_alone tasks.old }
 {
     let mut doing = Now::GoesOn {

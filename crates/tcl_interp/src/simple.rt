@@ -1,10 +1,12 @@
-//! Commands whose words are put together at once. A word is plain where it is made of texts and values of variables, or is an expression in
-//! brackets that straight code evaluates: none of these changes anything.
-ghost use Rattle.std.specs.Prelude.{◌≡◌, ◌<◌, ◌≤◌, ◌+◌, [], ◌∷◌, length, drop, List, ℕ, true, false, Some, None, Ok, IfOk, IfSome, MatchOption};
+//! Commands whose words are put together at once. A word is plain where it is made of texts and values of variables, or is in brackets an expression that
+//! straight code evaluates or a command on texts or lists: none of these changes anything.
+ghost use Rattle.std.specs.Prelude.{◌≡◌, ◌<◌, ◌≤◌, ◌+◌, [], ◌∷◌, length, drop, List, ℕ, true, false, Some, None, Ok, IfOk, IfSome, MatchOption, OnErr};
 ghost use Rattle.std.specs.Option.{option_copied};
 ghost use Rattle.tcl_words.specs.declared.script.Piece.TheVariants.{Bracket};
+ghost use Rattle.tcl_vars.specs.Store.{Store};
 ghost use Rattle.tcl_table.specs.Names.{plain_name};
 ghost use Rattle.tcl_table.specs.Table.{command_of};
+ghost use Rattle.tcl_control.specs.declared.code.Code.TheVariants.{Normal};
 ghost use Rattle.tcl_control.specs.ExpressionForms.{evaluation_begins};
 ghost use Rattle.tcl_control.specs.Levels.{here};
 ghost use Rattle.tcl_control.specs.Variables.{answer_code, answer_text};
@@ -19,6 +21,7 @@ use crate::machine::{Frame, Next, Now, ScriptPlace};
 use crate::moves::after_command;
 use crate::openings::straight_value;
 use crate::steps::call;
+use crate::stopped::note_ended;
 use crate::tasks::Tasks;
 use crate::words::{
     Put, commands, expand_at, next_words, past_command, pieces_at, put_pieces, single_text, wait,
@@ -31,6 +34,10 @@ use tcl_table::{Builtin, Command, is_dotted, plain_name};
 use tcl_text::{Text, TextCommand, TextList};
 use tcl_vars::Scopes;
 use tcl_words::{Piece, Script, Word};
+
+/// How deep brackets of commands on texts stand in one another in a word that is plain. Where one of them isn't plain after all, those before it run
+/// again, once for each level at most.
+const DEPTH: u64 = 2;
 
 /// The text of a word, and the steps that were taken for it.
 #[derive(Drop)]
@@ -155,7 +162,7 @@ fn expression_of(
 }
 
 /// What a script gives that is one command, `expr` with one argument.
-fn script_value<T: Tasks>(
+fn expression_value<T: Tasks>(
     alloc: Global,
     scopes: &Scopes,
     context: &Context,
@@ -213,7 +220,92 @@ fn plain_text(
     }
 }
 
-/// The value of the word at an index, where it is plain.
+/// Whether a command of these words is one on texts or lists. It may be any answer: where it isn't one, a try is lost.
+fn is_on_texts(context: &Context, words: &[Word]) -> bool {
+    match written(words, 0) {
+        Some(name) => matches!(command_named(context, name), Some(Command::Texts(_))),
+        None => false,
+    }
+}
+
+/// What a command on texts or lists gives that is called with these words, where that is no error.
+fn text_value<T: Tasks>(
+    alloc: Global,
+    context: &Context,
+    words: &[Text],
+) -> Result<Option<Text>, AllocError>
+    ensures some { IfOk result (λ value. IfSome value (λ text. 0 < length words.now)) }
+    ensures gives { IfOk result (λ value. IfSome value (λ text. (store : Store) → EndsCall T.outside words.now store context.now store Normal text)) }
+    ensures short { IfOk result (λ value. IfSome value (λ text. length text ≤ most_bytes)) }
+{
+    let [name, arguments @ ..] = words else {
+        return Ok(None);
+    };
+    match command_named(context, name) {
+        Some(Command::Texts(command)) => match command.answer(alloc, arguments)? {
+            Ok(text) => {
+                let _short = text.as_str();
+                Ok(Some(text))
+            }
+            Err(_) => Ok(None),
+        },
+        _ => Ok(None),
+    }
+}
+
+/// What a script gives that is one command, `expr` with one argument or one on texts or lists, with brackets at most so deep in its words.
+#[cycle(words)]
+fn script_value<T: Tasks>(
+    alloc: Global,
+    scopes: &Scopes,
+    context: &Context,
+    level: usize,
+    script: &Script,
+    room: u64,
+    most: u64,
+    depth: u64,
+) -> Result<Option<Worth>, AllocError>
+    requires level { level ≡ here context.now.levels scopes.now }
+    requires there { level < length scopes.now }
+    requires room { 0 < room }
+    requires some { 0 < most }
+    ensures gives { IfOk result (λ found. IfSome found (λ worth. GivesScript T.outside room script.now scopes.now context.now worth.steps worth.text)) }
+    ensures most { IfOk result (λ found. IfSome found (λ worth. worth.steps ≤ most)) }
+    ensures short { IfOk result (λ found. IfSome found (λ worth. length worth.text ≤ most_bytes)) }
+{
+    if let Some(text) = expression_value::<T>(alloc, scopes, context, level, script, room)? {
+        return Ok(Some(Worth { text, steps: 1 }));
+    }
+    let [command] = commands(script) else {
+        return Ok(None);
+    };
+    let words = command.words.as_slice();
+    if depth == 0 || !is_on_texts(context, words) {
+        return Ok(None);
+    }
+    let Some(found) = plain_words::<T>(
+        alloc,
+        scopes,
+        context,
+        words,
+        room - 1,
+        most - 1,
+        depth - 1,
+    )?
+    else {
+        return Ok(None);
+    };
+    match text_value::<T>(alloc, context, found.words.as_slice())? {
+        Some(text) => Ok(Some(Worth {
+            text,
+            steps: found.steps + 1,
+        })),
+        None => Ok(None),
+    }
+}
+
+/// The value of the word at an index, where it is plain, with brackets at most so deep in one another.
+#[cycle(words)]
 fn word_value<T: Tasks>(
     alloc: Global,
     scopes: &Scopes,
@@ -223,6 +315,7 @@ fn word_value<T: Tasks>(
     index: usize,
     room: u64,
     most: u64,
+    depth: u64,
 ) -> Result<Option<Worth>, AllocError>
     requires level { level ≡ here context.now.levels scopes.now }
     requires there { level < length scopes.now }
@@ -238,13 +331,11 @@ fn word_value<T: Tasks>(
     let Some(script) = bracketed(words, index) else {
         return Ok(None);
     };
-    match script_value::<T>(alloc, scopes, context, level, script, room)? {
-        Some(text) => Ok(Some(Worth { text, steps: 1 })),
-        None => Ok(None),
-    }
+    script_value::<T>(alloc, scopes, context, level, script, room, most, depth)
 }
 
-/// The words of a command, where all are plain, for so many steps at most.
+/// The words of a command, where all are plain, for so many steps at most, with brackets at most so deep in one another.
+#[cycle(words)]
 fn plain_words<T: Tasks>(
     alloc: Global,
     scopes: &Scopes,
@@ -252,6 +343,7 @@ fn plain_words<T: Tasks>(
     words: &[Word],
     room: u64,
     most: u64,
+    depth: u64,
 ) -> Result<Option<Worded>, AllocError>
     ensures leads { IfOk result (λ found. IfSome found (λ all. WordsLead T.outside room scopes.now context.now words.now [] all.steps [] all.words)) }
     ensures most { IfOk result (λ found. IfSome found (λ all. all.steps ≤ most)) }
@@ -262,7 +354,9 @@ fn plain_words<T: Tasks>(
     let mut word = 0;
     while word < words.len() {
         let left = most - steps;
-        let Some(found) = word_value::<T>(alloc, scopes, context, level, words, word, room, left)?
+        let Some(found) = word_value::<T>(
+            alloc, scopes, context, level, words, word, room, left, depth,
+        )?
         else {
             return Ok(None);
         };
@@ -333,7 +427,10 @@ fn call_behind<T: Tasks>(
     ensures left { T.left_alone tasks.new ≡ T.left_alone tasks.old }
 {
     match call_at_once::<T>(alloc, scopes, context, words)? {
-        Some(End { code, text }) => Ok(after_command(place, code, text)),
+        Some(End { code, text }) => {
+            note_ended(&mut context.commands, frames.as_slice(), &place, code)?;
+            Ok(after_command(place, code, text))
+        }
         None => {
             let room = place.room;
             wait(frames, Frame::ForCommand(place))?;
@@ -357,12 +454,12 @@ fn next_plain<T: Tasks>(
 {
     match next_words(place) {
         [] => Ok(None),
-        words => plain_words::<T>(alloc, scopes, context, words, place.room, most),
+        words => plain_words::<T>(alloc, scopes, context, words, place.room, most, DEPTH),
     }
 }
 
 /// Runs the next command of a script, where its words are plain, for so many steps at most. No step is taken, and nothing is done, where they
-/// aren't. Its steps are counted before it is called, so that none is lost where memory is refused in it.
+/// aren't. Its steps are counted before it is called: where memory is refused and none was counted, nothing that scripts can learn has changed.
 fn run_one<T: Tasks>(
     alloc: Global,
     tasks: &mut T,
@@ -383,6 +480,7 @@ fn run_one<T: Tasks>(
     ensures counted { IfOk result (λ gone. gone.steps + left.new ≡ left.old) }
     ensures taken { left.new ≤ left.old }
     ensures within { left.old ≤ left.new + most }
+    ensures uncounted { OnErr result (left.new ≡ left.old → (scopes.new ≡ scopes.old) × (context.new ≡ context.old) × (T.shows tasks.new ≡ T.shows tasks.old)) }
     ensures left { T.left_alone tasks.new ≡ T.left_alone tasks.old }
 {
     match next_plain::<T>(alloc, scopes, context, &place, most - 1)? {
@@ -425,6 +523,7 @@ pub fn run_plain<T: Tasks>(
     ensures counted { IfOk result (λ gone. gone.steps + left.new ≡ left.old) }
     ensures taken { left.new ≤ left.old }
     ensures within { left.old ≤ left.new + most }
+    ensures uncounted { OnErr result (left.new ≡ left.old → (scopes.new ≡ scopes.old) × (context.new ≡ context.old) × (T.shows tasks.new ≡ T.shows tasks.old)) }
     ensures left { T.left_alone tasks.new ≡ T.left_alone tasks.old }
 {
     let mut place = from;

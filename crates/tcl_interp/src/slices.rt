@@ -159,7 +159,7 @@ fn went(steps: u64) -> bool
 }
 
 /// Goes on from a command, or takes a step, for so many steps at most; and moves on up to the next command with plain words, or to where the next
-/// step is needed. Where no step was taken, it is needed then. Each is counted before it is taken, so that none is lost where memory is refused.
+/// step is needed. Where no step was taken, it is needed then. Each is counted before it is taken. Of a refusal of memory only `run_commands` says so.
 fn proceed<T: Tasks>(
     alloc: Global,
     tasks: &mut T,

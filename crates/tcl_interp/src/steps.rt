@@ -15,12 +15,12 @@ use crate::openings::{Condition, choose_first, open_condition, valued};
 use crate::tasks::{Act, Tasks};
 use crate::words::{begin_for, wait};
 use std::alloc::{AllocError, Global};
+use tcl_commands::Groups;
 use tcl_control::{
     Call, Code, Context, Looping, Plan, Test, Turning, Verdict, call_command, items_tested,
 };
-use tcl_shapes::Groups;
-use tcl_table::Source;
 use tcl_table::texts::unknown_command;
+use tcl_table::{CommandTable, Source};
 use tcl_text::{Text, TextList};
 use tcl_vars::Scopes;
 
@@ -254,6 +254,31 @@ pub fn call<T: Tasks>(
     }
 }
 
+/// The text of the error with which a script of a task has ended, if it has.
+fn failure_of(code: Code, text: &Text) -> Result<Option<Text>, AllocError> {
+    match code {
+        Code::Error => Ok(Some(text.copy()?)),
+        _ => Ok(None),
+    }
+}
+
+/// The error of a task's script goes no further, and is noted, unless the task ends with it.
+fn end_failure<K>(
+    table: &mut CommandTable,
+    failure: Option<Text>,
+    act: &Act<K>,
+) -> Result<(), AllocError>
+    ensures { table.new ≡ table.old }
+{
+    let Some(failed) = failure else {
+        return Ok(());
+    };
+    match act {
+        Act::Done(Code::Error, text) if text.as_str() == failed.as_str() => Ok(()),
+        _ => table.end_trail(&failed),
+    }
+}
+
 /// Resumes a task.
 pub fn resume<T: Tasks>(
     alloc: Global,
@@ -270,6 +295,8 @@ pub fn resume<T: Tasks>(
         (standing_of now frames.new.items scopes.new context.new) (T.shows tasks.new)) }
     ensures left { T.left_alone tasks.new ≡ T.left_alone tasks.old }
 {
+    let failure = failure_of(code, &text)?;
     let act = tasks.resume(scopes, task, code, text)?;
+    end_failure(&mut context.commands, failure, &act)?;
     act_on(alloc, context, frames, act, "", room)
 }

@@ -1,33 +1,11 @@
-use crate::machine::{Frame, ScriptPlace};
+//! The commands in which something stands, for people.
+ghost use Rattle.std.specs.Prelude.{◌≡◌};
+
+use crate::machine::{Frame, ScriptPlace, Wording};
 use std::alloc::{AllocError, Global};
-use tcl_words::{Script, Span};
-
-/// A command that had begun and hadn't ended.
-#[derive(Drop)]
-pub struct CommandPlace {
-    /// The script in which it stands.
-    pub script: Script,
-    /// How many commands stand before it there.
-    pub index: usize,
-    /// Whether the script is the body of a procedure.
-    pub is_in_body: bool,
-}
-
-impl CommandPlace {
-    ghost use Rattle.std.specs.Prelude.{◌≡◌, List, Ok, option_map, slice_get};
-    ghost use Rattle.tcl_words.specs.Reading.{commands_of};
-    ghost use Rattle.tcl_words.specs.declared.script.Command.{Command};
-
-    /// Where it stands in the script, in bytes.
-    pub fn span(&self) -> Option<Span>
-        ensures { (commands : List Command) → commands_of self.now.script ≡ Ok commands → result ≡ option_map (λ c. c.span) (slice_get commands self.now.index) }
-    {
-        match self.script.commands().get(self.index) {
-            Some(command) => Some(command.span),
-            None => None,
-        }
-    }
-}
+use tcl_control::Code;
+use tcl_table::{CommandPlace, CommandTable};
+use tcl_text::Text;
 
 /// Whether a script that waits in the frame at an index is the body of a procedure.
 fn is_body<K>(frames: &[Frame<K>], index: usize) -> bool {
@@ -77,4 +55,58 @@ pub fn places<K>(alloc: Global, frames: &[Frame<K>]) -> Result<Vec<CommandPlace>
         }
     }
     Ok(found)
+}
+
+/// An error ends the command of a script before which this many others stand. Nothing waits for it any more.
+pub fn note_error<K>(
+    table: &mut CommandTable,
+    frames: &[Frame<K>],
+    place: &ScriptPlace,
+    index: usize,
+) -> Result<(), AllocError>
+    ensures { table.new ≡ table.old }
+{
+    let is_in_body = is_body(frames, frames.len());
+    table.note_place(place_of(place, index, is_in_body)?)
+}
+
+/// The command of a script before the place has ended: with an error, that is noted.
+pub fn note_ended<K>(
+    table: &mut CommandTable,
+    frames: &[Frame<K>],
+    place: &ScriptPlace,
+    code: Code,
+) -> Result<(), AllocError>
+    ensures { table.new ≡ table.old }
+{
+    match code {
+        Code::Error => note_error(table, frames, place, place.next.saturating_sub(1)),
+        _ => Ok(()),
+    }
+}
+
+/// A part of the words of a command has ended: with an error, that is noted.
+pub fn note_part<K>(
+    table: &mut CommandTable,
+    frames: &[Frame<K>],
+    wording: &Wording,
+    code: Code,
+) -> Result<(), AllocError>
+    ensures { table.new ≡ table.old }
+{
+    let place = &wording.place;
+    match code {
+        Code::Error => note_error(table, frames, place, place.next),
+        _ => Ok(()),
+    }
+}
+
+/// All that ran has ended: with an error, that is noted with its text.
+pub fn note_end(table: &mut CommandTable, code: Code, text: &Text) -> Result<(), AllocError>
+    ensures { table.new ≡ table.old }
+{
+    match code {
+        Code::Error => table.end_trail(text),
+        _ => Ok(()),
+    }
 }

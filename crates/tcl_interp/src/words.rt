@@ -4,16 +4,18 @@ ghost use Rattle.tcl_text.specs.Readings.{list_of};
 ghost use Rattle.tcl_control.specs.Source.{script_of};
 ghost use Rattle.tcl_control.specs.Texts.{element_name};
 ghost use Rattle.tcl_interp.specs.Evaluation.{index_depth, items_or_text, words_of};
-ghost use Rattle.tcl_interp.specs.Finish.{Begins};
+ghost use Rattle.tcl_control.specs.declared.code.Code.TheVariants.{Error};
+ghost use Rattle.tcl_interp.specs.Finish.{Begins, Ends};
 ghost use Rattle.tcl_interp.specs.Moves.{moved, with_more_words, piece_text, word_end, called_move, words_move, element_begins, element_end, indexes_move, longer_index, part_begins, part_move, word_part, go_on_move};
 ghost use Rattle.tcl_interp.specs.Rests.{commands_in, doing_of, expand_in_front, indexing_of, IsSingle, left_in, moved_of, part_of, pieces_in, pieces_in_front, put_end, value_of, waiting_of, waits_of, wording_of, words_in_front};
 ghost use Rattle.tcl_text.specs.Limits.{most_bytes};
 
 use crate::machine::{Frame, Indexing, Next, Now, ScriptPlace, Wording};
+use crate::stopped::note_error;
 use std::alloc::{AllocError, Global};
 use tcl_control::Code;
-use tcl_table::Source;
 use tcl_table::texts::cannot_read_element;
+use tcl_table::{CommandTable, Source};
 use tcl_text::message::limit;
 use tcl_text::{SplitFault, Text, TextFault, TextList};
 use tcl_vars::Scopes;
@@ -297,15 +299,68 @@ fn is_plain_piece(piece: &Piece) -> bool {
     matches!(piece, Piece::Literal(_) | Piece::Variable(_))
 }
 
-/// Whether a word may be put together at once: its pieces are texts and values of variables, or it is an expression in brackets.
-fn is_plain_word(word: &Word) -> bool {
-    match word.pieces.as_slice() {
-        [Piece::Bracket(script)] => match script.commands() {
-            [command] => command.words.as_slice().len() == 2 && !word.expand,
+/// Whether a word is made of texts and values of variables.
+fn is_simple_word(word: &Word) -> bool {
+    !word.expand && word.pieces.as_slice().iter().all(is_plain_piece)
+}
+
+/// Whether a command of so many words has a name, as it is written, that one on texts or lists has at first, or is `expr` with one argument.
+/// What the name calls isn't looked up.
+fn has_plain_name(name: &Word, count: usize) -> bool {
+    match name.pieces.as_slice() {
+        [Piece::Literal(text)] => match text.as_str() {
+            "expr" => count == 2,
+            "concat"
+            | "join"
+            | "lindex"
+            | "linsert"
+            | "list"
+            | "llength"
+            | "lrange"
+            | "lreplace"
+            | "lsearch"
+            | "lsort"
+            | "split"
+            | "string" => true,
             _ => false,
         },
-        pieces => !word.expand && pieces.iter().all(is_plain_piece),
+        _ => false,
     }
+}
+
+/// The words in the brackets that a word is, where they are those of one command of such a name, and none otherwise.
+fn words_in_brackets(word: &Word) -> &[Word] {
+    match word.pieces.as_slice() {
+        [Piece::Bracket(script)] if !word.expand => match script.commands() {
+            [command] => {
+                let words = command.words.as_slice();
+                match words {
+                    [name, ..] if has_plain_name(name, words.len()) => words,
+                    _ => &[],
+                }
+            }
+            _ => &[],
+        },
+        _ => &[],
+    }
+}
+
+/// Whether a word in brackets may be put together at once.
+fn is_plain_inside(word: &Word) -> bool {
+    if is_simple_word(word) {
+        return true;
+    }
+    let words = words_in_brackets(word);
+    !words.is_empty() && words.iter().all(is_simple_word)
+}
+
+/// Whether a word may be put together at once: its pieces are texts and values of variables, or it is one command in brackets, whose words are so.
+fn is_plain_word(word: &Word) -> bool {
+    if is_simple_word(word) {
+        return true;
+    }
+    let words = words_in_brackets(word);
+    !words.is_empty() && words.iter().all(is_plain_inside)
 }
 
 /// Whether there is a next command whose words may be put together at once. It may be any answer: where they can't be, a try is lost.
@@ -314,18 +369,37 @@ pub fn is_plain(place: &ScriptPlace) -> bool {
     !words.is_empty() && words.iter().all(is_plain_word)
 }
 
+/// The words of the command that is next can't be put together: it ends with this error.
+fn words_fail<K: Drop>(
+    table: &mut CommandTable,
+    frames: &[Frame<K>],
+    place: &ScriptPlace,
+    text: Text,
+) -> Next<K>
+    ensures table { table.new ≡ table.old }
+    ensures now { IfOk result (λ now. doing_of now ≡ Ends Error text) }
+{
+    note_error(table, frames, place, place.next)?;
+    Ok(Now::Ends {
+        code: Code::Error,
+        text,
+    })
+}
+
 /// Puts the words of the command that is next together, from this one on, until a script is to be run.
 fn put_words<K: Drop>(
     alloc: Global,
     scopes: &Scopes,
     level: usize,
+    table: &mut CommandTable,
     frames: &mut Vec<Frame<K>>,
     place: ScriptPlace,
     from: usize,
     so_far: TextList,
 ) -> Next<K>
     requires { level < length scopes.now }
-    ensures { IfOk result (λ now. moved_of now frames.new.items
+    ensures table { table.new ≡ table.old }
+    ensures now { IfOk result (λ now. moved_of now frames.new.items
         ≡ words_move level scopes.now place.room (drop (place.next + 1) (commands_in place.script)) (drop from (words_in_front (left_in place))) so_far
         (waits_of frames.old.items)) }
 {
@@ -344,20 +418,10 @@ fn put_words<K: Drop>(
                 let more = with_word(alloc, whole, words, word, text)?;
                 match more {
                     Ok(all) => whole = all,
-                    Err(text) => {
-                        return Ok(Now::Ends {
-                            code: Code::Error,
-                            text,
-                        });
-                    }
+                    Err(text) => return words_fail(table, frames.as_slice(), &place, text),
                 }
             }
-            Put::Failed(text) => {
-                return Ok(Now::Ends {
-                    code: Code::Error,
-                    text,
-                });
-            }
+            Put::Failed(text) => return words_fail(table, frames.as_slice(), &place, text),
             Put::AtPart { part, next, so_far } => {
                 return word_part(alloc, frames, place, word, next, whole, so_far, part);
             }
@@ -538,12 +602,14 @@ pub fn longer_word<K: Drop>(
     alloc: Global,
     scopes: &Scopes,
     level: usize,
+    table: &mut CommandTable,
     frames: &mut Vec<Frame<K>>,
     wording: Box<Wording>,
     text: Text,
 ) -> Next<K>
     requires { level < length scopes.now }
-    ensures { IfOk result (λ now. moved_of now frames.new.items ≡ part_move level scopes.now (wording_of wording.value) (waits_of frames.old.items) text) }
+    ensures table { table.new ≡ table.old }
+    ensures now { IfOk result (λ now. moved_of now frames.new.items ≡ part_move level scopes.now (wording_of wording.value) (waits_of frames.old.items) text) }
 {
     let Wording {
         place,
@@ -553,10 +619,7 @@ pub fn longer_word<K: Drop>(
         so_far,
     } = Box::into_inner(wording);
     let Some(so_far) = joined(alloc, so_far, text)? else {
-        return Ok(Now::Ends {
-            code: Code::Error,
-            text: limit(alloc)?,
-        });
+        return words_fail(table, frames.as_slice(), &place, limit(alloc)?);
     };
     match put_pieces(
         alloc,
@@ -571,18 +634,12 @@ pub fn longer_word<K: Drop>(
             match more {
                 Ok(whole) => {
                     let next = past_word(next_words(&place), word);
-                    put_words(alloc, scopes, level, frames, place, next, whole)
+                    put_words(alloc, scopes, level, table, frames, place, next, whole)
                 }
-                Err(text) => Ok(Now::Ends {
-                    code: Code::Error,
-                    text,
-                }),
+                Err(text) => words_fail(table, frames.as_slice(), &place, text),
             }
         }
-        Put::Failed(text) => Ok(Now::Ends {
-            code: Code::Error,
-            text,
-        }),
+        Put::Failed(text) => words_fail(table, frames.as_slice(), &place, text),
         Put::AtPart { part, next, so_far } => {
             word_part(alloc, frames, place, word, next, whole, so_far, part)
         }
@@ -594,16 +651,18 @@ pub fn go_on<K: Drop>(
     alloc: Global,
     scopes: &Scopes,
     level: usize,
+    table: &mut CommandTable,
     frames: &mut Vec<Frame<K>>,
     place: ScriptPlace,
     previous: Text,
 ) -> Next<K>
     requires { level < length scopes.now }
-    ensures { IfOk result (λ now. moved_of now frames.new.items ≡ go_on_move level scopes.now place.room (left_in place) previous (waits_of frames.old.items)) }
+    ensures table { table.new ≡ table.old }
+    ensures now { IfOk result (λ now. moved_of now frames.new.items ≡ go_on_move level scopes.now place.room (left_in place) previous (waits_of frames.old.items)) }
 {
     if place.next < commands(&place.script).len() {
         let words = TextList::with_capacity(alloc, next_words(&place).len())?;
-        put_words(alloc, scopes, level, frames, place, 0, words)
+        put_words(alloc, scopes, level, table, frames, place, 0, words)
     } else {
         Ok(Now::Ends {
             code: Code::Normal,

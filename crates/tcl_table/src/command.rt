@@ -6,8 +6,9 @@ ghost use Rattle.tcl_table.specs.Source.{script_of};
 ghost use Rattle.tcl_table.specs.Table.{builtins, variables, texts, is_procedure, procedure_count, procedures_among, value_at, with_value, without, first_commands, with_builtins, with_texts, with_outside};
 
 use crate::builtin::Builtin;
-use crate::kept::{expression_at, place_of, script_at, vacant_places};
+use crate::kept::{MOST_SOURCE, expression_at, place_of, script_at, vacant_places, vacate};
 use crate::procedure::Procedure;
+use crate::trail::{CommandPlace, ErrorNote, Trail};
 use indexmap::IndexMap;
 use std::alloc::{AllocError, Global};
 use std::marker::Model;
@@ -46,12 +47,17 @@ pub fn is_dotted(name: &str) -> bool
     name.starts_with(".")
 }
 
-/// The commands by their names, and beside them what was read of the scripts and expressions that they run. Contracts see the
-/// commands alone: what is kept of a text is what that text says, whether or not it is kept.
+/// The commands by their names, and beside them what was read of the scripts and expressions that they run, and notes of errors. Contracts see
+/// the commands alone: what is kept of a text is what that text says, whether or not it is kept, and notes are for people.
 pub struct CommandTable {
     entries: IndexMap<String, Command>,
     scripts: Vec<Option<Script>>,
     expressions: Vec<Option<Expr>>,
+    /// Of how many bytes of source scripts and expressions were kept since nothing was.
+    bytes_kept: usize,
+    /// Of how many bytes of source the bodies of procedures are held as read.
+    bytes_of_bodies: usize,
+    trail: Trail,
     alloc: Global,
 }
 
@@ -74,6 +80,9 @@ impl CommandTable {
             entries: IndexMap::new(alloc),
             scripts: vacant_places(alloc)?,
             expressions: vacant_places(alloc)?,
+            bytes_kept: 0,
+            bytes_of_bodies: 0,
+            trail: Trail::new(alloc),
             alloc,
         })
     }
@@ -85,18 +94,51 @@ impl CommandTable {
         self.entries.get(name)
     }
 
-    /// Gives a name a command, in place of the one that it may have.
+    /// Gives a name a command, in place of the one that it may have. The body of a procedure stays as it was read only while all such bodies come from
+    /// few enough bytes; beyond that its text alone is held, and read as other scripts are.
     pub fn insert(&mut self, name: &str, command: Command) -> Result<(), AllocError>
         ensures ok { OnOk result (self.new ≡ with_value self.old name.now command) }
         ensures err { OnErr result (self.new ≡ self.old) }
     {
-        let name = String::from_str(self.alloc, name)?;
-        self.entries.insert(name, command)?;
+        let command = held(command, MOST_SOURCE.saturating_sub(self.bytes_of_bodies))?;
+        let bytes = body_bytes(&command);
+        let replaced = self.put(name, command)?;
+        self.forget_body(replaced.as_ref());
+        self.bytes_of_bodies = self.bytes_of_bodies.saturating_add(bytes);
         Ok(())
+    }
+
+    /// Gives a name a command, and answers the one that it had; what was read of its body is still counted.
+    fn put(&mut self, name: &str, command: Command) -> Result<Option<Command>, AllocError>
+        ensures ok { OnOk result (self.new ≡ with_value self.old name.now command) }
+        ensures err { OnErr result (self.new ≡ self.old) }
+    {
+        let name = String::from_str(self.alloc, name)?;
+        let replaced = self.entries.insert(name, command)?;
+        Ok(replaced)
+    }
+
+    /// A command that goes takes along what was read of its body.
+    fn forget_body(&mut self, command: Option<&Command>)
+        ensures { self.new ≡ self.old }
+    {
+        if let Some(command) = command {
+            self.bytes_of_bodies = self.bytes_of_bodies.saturating_sub(body_bytes(command));
+        }
     }
 
     /// Takes a name out, with its command.
     pub fn remove(&mut self, name: &str) -> Option<Command>
+        ensures value { result ≡ value_at self.old name.now }
+        ensures rest { self.new ≡ without self.old name.now }
+    {
+        let removed = self.take_out(name);
+        self.forget_body(removed.as_ref());
+        removed
+    }
+
+    /// Takes a name out; what was read of its body is still counted.
+    fn take_out(&mut self, name: &str) -> Option<Command>
         ensures value { result ≡ value_at self.old name.now }
         ensures rest { self.new ≡ without self.old name.now }
     {
@@ -144,10 +186,23 @@ impl CommandTable {
     fn keep_at(&mut self, place: usize, script: &Script) -> Result<(), AllocError>
         ensures { self.new ≡ self.old }
     {
+        self.count_kept(script.text().as_str().len());
         if place < self.scripts.len() {
             self.scripts[place] = Some(script.copy()?);
         }
         Ok(())
+    }
+
+    /// Something is kept that comes from so many bytes of source: where that is too many with what was kept before, that goes first.
+    fn count_kept(&mut self, bytes: usize)
+        ensures { self.new ≡ self.old }
+    {
+        self.bytes_kept = self.bytes_kept.saturating_add(bytes);
+        if self.bytes_kept > MOST_SOURCE {
+            vacate(self.scripts.as_mut_slice());
+            vacate(self.expressions.as_mut_slice());
+            self.bytes_kept = bytes;
+        }
     }
 
     /// The expression of a text (expr(n)), if it is kept. Nothing is read.
@@ -163,10 +218,37 @@ impl CommandTable {
         ensures { self.new ≡ self.old }
     {
         let place = place_of(expr.text());
+        self.count_kept(expr.text().as_str().len());
         if place < self.expressions.len() {
             self.expressions[place] = Some(expr.copy()?);
         }
         Ok(())
+    }
+
+    /// An error ends this command, behind those that were noted since the last one was caught or ended a script at global level.
+    pub fn note_place(&mut self, place: CommandPlace) -> Result<(), AllocError>
+        ensures { self.new ≡ self.old }
+    {
+        self.trail.note(place)
+    }
+
+    /// The error is caught: the commands that were noted of it are forgotten. It takes no memory.
+    pub fn forget_trail(&mut self)
+        ensures { self.new ≡ self.old }
+    {
+        self.trail.forget();
+    }
+
+    /// The error, of this text, ends a script at global level: the commands that were noted of it are kept with it.
+    pub fn end_trail(&mut self, text: &Text) -> Result<(), AllocError>
+        ensures { self.new ≡ self.old }
+    {
+        self.trail.end(text)
+    }
+
+    /// The errors that ended scripts at global level, in the order in which they came: the first 64. It takes no memory.
+    pub fn error_notes(&self) -> &[ErrorNote] {
+        self.trail.notes()
     }
 
     /// How many names call procedures; `proc` makes 1,024 at most.
@@ -174,6 +256,38 @@ impl CommandTable {
         ensures { result ≡ procedure_count self.now }
     {
         count_procedures(&self.entries)
+    }
+}
+
+/// How many bytes of source were read of a procedure's body.
+fn body_bytes(command: &Command) -> usize {
+    match command {
+        Command::Procedure(procedure) => procedure.body.bytes_read(),
+        Command::Builtin(_) | Command::Texts(_) | Command::Outside(_) => 0,
+    }
+}
+
+/// The same procedure, which holds of its body the text alone if that was read of more bytes than so many.
+fn held_procedure(procedure: Procedure, most: usize) -> Result<Procedure, AllocError>
+    ensures { IfOk result (λ held. held ≡ procedure) }
+{
+    if procedure.body.bytes_read() <= most {
+        return Ok(procedure);
+    }
+    let Procedure { parameters, body } = procedure;
+    let body = body.unread()?;
+    Ok(Procedure { parameters, body })
+}
+
+/// The same command, with a body that was read of so many bytes at most.
+fn held(command: Command, most: usize) -> Result<Command, AllocError>
+    ensures { IfOk result (λ held. held ≡ command) }
+{
+    match command {
+        Command::Procedure(procedure) => Ok(Command::Procedure(held_procedure(procedure, most)?)),
+        Command::Builtin(builtin) => Ok(Command::Builtin(builtin)),
+        Command::Texts(command) => Ok(Command::Texts(command)),
+        Command::Outside(name) => Ok(Command::Outside(name)),
     }
 }
 
@@ -280,6 +394,9 @@ impl Drop for CommandTable {
             entries: _,
             scripts: _,
             expressions: _,
+            bytes_kept: _,
+            bytes_of_bodies: _,
+            trail: _,
             alloc: _,
         } = self;
     }

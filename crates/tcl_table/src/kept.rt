@@ -11,6 +11,17 @@ use tcl_words::Script;
 /// How many of each are kept at most.
 const PLACES: usize = 256;
 
+/// How many bytes of source what is kept of an application's scripts and expressions comes from at most, and how many what its procedures' bodies
+/// are as read: reading takes up to some hundred bytes a byte where brackets stand in one another.
+pub(crate) const MOST_SOURCE: usize = 131_072;
+
+/// Keeps nothing any more.
+pub(crate) fn vacate<T: Drop>(places: &mut [Option<T>]) {
+    for place in places.iter_mut() {
+        *place = None;
+    }
+}
+
 /// Places at which nothing is kept.
 pub(crate) fn vacant_places<T: Drop>(alloc: Global) -> Result<Vec<Option<T>>, AllocError> {
     let mut places = Vec::new(alloc);

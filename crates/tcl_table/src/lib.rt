@@ -1,4 +1,4 @@
-//! What the names of commands call, the levels that scripts see, scripts that are read once, and two texts of errors.
+//! What the names of commands call, the levels that scripts see, scripts that are read once, two texts of errors, and notes of where errors came from.
 #![tactic(auto)]
 
 mod builtin;
@@ -10,6 +10,7 @@ mod levels;
 mod procedure;
 mod source;
 pub mod texts;
+mod trail;
 
 pub use builtin::Builtin;
 pub use cache::ScriptCache;
@@ -18,3 +19,4 @@ pub use command::{Command, CommandTable, first_commands, is_dotted, plain_name};
 pub use levels::Levels;
 pub use procedure::Procedure;
 pub use source::Source;
+pub use trail::{CommandPlace, ErrorNote};

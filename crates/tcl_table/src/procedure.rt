@@ -1,5 +1,5 @@
 use crate::source::Source;
-use tcl_shapes::Parameters;
+use tcl_commands::Parameters;
 
 /// A procedure (proc(n)): its parameters, and its body, which is read when it is made.
 #[derive(Drop)]

@@ -117,6 +117,26 @@ impl Source {
         !matches!(self.form, SourceForm::Unread(_))
     }
 
+    /// How many bytes of source were read of it. It takes no memory.
+    pub(crate) fn bytes_read(&self) -> usize {
+        match &self.form {
+            SourceForm::Read(script) => script.text().as_str().len(),
+            SourceForm::Unread(_) | SourceForm::Faulty(..) => 0,
+        }
+    }
+
+    /// The same script, of which nothing is held but its text, if it has no fault.
+    pub(crate) fn unread(self) -> Result<Source, AllocError>
+        ensures { IfOk result (λ source. source ≡ self) }
+    {
+        let Source { form } = self;
+        match form {
+            SourceForm::Unread(text) => Ok(Source::of_text(text)),
+            SourceForm::Read(script) => Ok(Source::of_text(script.text().copy()?)),
+            SourceForm::Faulty(fault, text) => Ok(Source::at_fault(fault, text)),
+        }
+    }
+
     /// A table keeps what was read of it, if anything, for other scripts of the same text.
     pub fn keep(&self, table: &mut CommandTable) -> Result<(), AllocError>
         ensures { table.new ≡ table.old }

@@ -22,8 +22,8 @@ begins_on room script waits store before context left commands result level next
 
 pub returns-in_ok-now-in-GoesOn : goal.returns-in_ok-now-in-GoesOn
 returns-in_ok-now-in-GoesOn g c =
-    let context : Context = record { levels = c.args.context.now.levels; commands = c.begun.new.table } in
+    let context : Context = record { levels = c.args.context.now.levels; commands = c.go_on.new.table } in
     begins_on c.args.room c.args.script (waits_of c.args.frames.now.items) c.args.scopes.now c.args.context.now context c.in-GoesOn.place.room (left_in c.in-GoesOn.place) c.in-GoesOn.result c.here-level.result _
-    (ap (λ table. record c.args.context.now { commands = table }) c.in_ok-now.ensures.table)
+    (ap (λ table. record c.args.context.now { commands = table }) (c.in_ok-now-in-GoesOn.ensures.table ∙ c.in_ok-now.ensures.table))
     ((rw c.in-GoesOn.is at c.in_ok-now.ensures.now) (waits_of c.args.frames.now.items) ∙ ap (λ text. begin_move c.args.room text (waits_of c.args.frames.now.items)) c.in_ok-script.ensures)
-    c.here-level.ensures.value c.in_ok-now-in-GoesOn.ensures
+    c.here-level.ensures.value c.in_ok-now-in-GoesOn.ensures.now

@@ -1,6 +1,6 @@
 use Rattle.std.proofs.Common.{◌≡◌, ◌<◌, ◌==◌, ◌∷◌, true, false, length, drop, get_or, ap, sym, ◌∙◌, subst}
 use Rattle.std.proofs.lemmas.Result.{IfOk-weaker}
-use Rattle.tcl_shapes.specs.declared.branches.Branch.{Branch}
+use Rattle.tcl_commands.specs.declared.branches.Branch.{Branch}
 use Rattle.tcl_interp.specs.declared.machine.Choosing.{Choosing}
 use Rattle.tcl_interp.specs.Finish.{Begins, ForChoice}
 use Rattle.tcl_interp.specs.Moves.{moved, standing, expression_begins, choice_move}

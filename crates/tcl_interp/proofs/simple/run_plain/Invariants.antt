@@ -11,6 +11,7 @@ invariant-commands g l = record {
       (standing (moved (GoesOn l.place.room (left_in l.place) l.text) (waits_of l.frames.items)) l.scopes l.context) (g.T.Tasks.shows l.tasks);
   most : l.steps ≤ l.most;
   counted : l.left + l.steps ≡ l.fn.left;
+  untaken : l.steps ≡ 0 → (l.scopes ≡ l.fn.scopes) × (l.context ≡ l.fn.context) × (g.T.Tasks.shows l.tasks ≡ g.T.Tasks.shows l.fn.tasks);
   left : g.T.Tasks.left_alone l.tasks ≡ g.T.Tasks.left_alone l.fn.tasks;
 }
 

@@ -1,7 +1,7 @@
 use Rattle.std.proofs.Common.{◌≡◌, ℕ, List, sym, ap, subst, ◌∙◌}
 use Rattle.std.proofs.lemmas.Result.{IfOk-weaker}
 use Rattle.tcl_vars.specs.Store.{Store}
-use Rattle.tcl_shapes.specs.declared.groups.Group.{Group}
+use Rattle.tcl_commands.specs.declared.groups.Group.{Group}
 use Rattle.tcl_control.specs.declared.context.Context.{Context}
 use Rattle.tcl_control.specs.declared.turns.Turning.{Turning}
 use Rattle.tcl_control.specs.declared.turns.Test.TheVariants.{Items}

@@ -3,7 +3,7 @@ use Rattle.std.proofs.Common.{◌∙◌, sym, ap}
 use Rattle.tcl_table.specs.Table.{value_at, without}
 use Rattle.tcl_vars.specs.Named.{named_entries}
 use Rattle.tcl_vars.proofs.NamedLemmas.{lookup-named_entries, named_entries-remove_entry}
-use Rattle.tcl_table.proofs.command.CommandTable.remove.Goals as goal
+use Rattle.tcl_table.proofs.command.CommandTable.take_out.Goals as goal
 
 pub returns-clause-value : goal.returns-clause-value
 returns-clause-value c =

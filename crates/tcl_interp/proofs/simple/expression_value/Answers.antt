@@ -2,7 +2,7 @@ use Rattle.std.proofs.Common.{◌≡◌, [], ◌∷◌, Ok, arith}
 use Rattle.std.proofs.lemmas.Result.{IfOk-weaker}
 use Rattle.tcl_control.specs.Source.{script_of}
 use Rattle.tcl_interp.proofs.SimpleLemmas.{only_command, if_expr_gives}
-use Rattle.tcl_interp.proofs.simple.script_value.Goals as goal
+use Rattle.tcl_interp.proofs.simple.expression_value.Goals as goal
 
 pub returns-in-len1-clause-gives : goal.returns-in-len1-clause-gives
 returns-in-len1-clause-gives g c =

@@ -5,9 +5,12 @@ pub mod FiledLemmas
 pub mod FilingLemmas
 pub mod KeptLemmas
 pub mod MatchLemmas
+pub mod OrderLemmas
+pub mod PairLemmas
 pub mod PlaceLemmas
 pub mod Reached
 pub mod RestLemmas
+pub mod SeekLemmas
 pub mod StepLemmas
 pub mod VerdictLemmas
 pub mod WinnerLemmas

@@ -5,7 +5,7 @@ use Rattle.std.specs.Prelude.{map, not, ◌&&◌, ◌||◌, ◌↔◌}
 use Rattle.tk_sequences.specs.declared.event.Event.{Event}
 use Rattle.tk_patterns.specs.declared.step.PatternStep.{PatternStep}
 use Rattle.tk_patterns.specs.Fits.{fits, may_stand_between, are_near}
-use Rattle.tk_patterns.specs.Matches.{MayStandBetween, HavePlaces, EndsAt, Matches, earlier_at, Cut, below, cuts, is_skipped, is_near_enough, is_place, have_places, ends_at, matches}
+use Rattle.tk_patterns.specs.Matches.{MayStandBetween, HavePlaces, EndsAt, Matches, earlier_at, Cut, with_between, cuts, is_skipped, is_near_enough, is_place, have_places, ends_at, matches}
 use Rattle.tk_patterns.specs.Steps.{steps_of}
 use Rattle.tk_patterns.specs.Walk.{nearest, walk_from, walk, walk_ends_at, walk_matches}
 use Rattle.tk_patterns.proofs.EventLemmas.{nearest_here, nearest_none, nearest_past}
@@ -122,10 +122,10 @@ or_false : (a : Bool) → (a || false) ≡ a
 or_false true = refl
 or_false false = refl
 
-places_below : (step : PatternStep) (before : List Event → Event → Bool) (later event : Event) (events : List Event) → list_any (is_place step before later) (map (below event) (cuts events))
+places_below : (step : PatternStep) (before : List Event → Event → Bool) (later event : Event) (events : List Event) → list_any (is_place step before later) (map (with_between event) (cuts events))
     ≡ (is_skipped step.pattern event && list_any (is_place step before later) (cuts events))
 places_below step before later event events =
-    any_of_map (is_place step before later) (below event) (cuts events)
+    any_of_map (is_place step before later) (with_between event) (cuts events)
     ∙ any_behind (is_skipped step.pattern event) (λ cut. list_all (is_skipped step.pattern) cut.between) (λ cut. fits step.pattern cut.here && (is_near_enough step cut.here later && before cut.older cut.here)) (cuts events)
 
 place_by : (step : PatternStep) (f g : List Event → Event → Bool) (later event : Event) (events : List Event) (b m : Bool) → fits step.pattern event ≡ b → may_stand_between event ≡ m → f events event ≡ g events event

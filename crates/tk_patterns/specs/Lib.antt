@@ -13,4 +13,5 @@ pub mod Shown
 pub mod Specific
 pub mod Steps
 pub mod Walk
+pub mod Wanted
 pub mod Winner

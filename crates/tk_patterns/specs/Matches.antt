@@ -53,13 +53,13 @@ pub record Cut : Type 0 where
   pub here : Event
   pub older : List Event
 
-abbrev pub below : Event → Cut → Cut
-below event cut = record cut { between = event ∷ cut.between }
+abbrev pub with_between : Event → Cut → Cut
+with_between event cut = record cut { between = event ∷ cut.between }
 
 -- each cut of events, one at each of them
 abbrev pub cuts : List Event → List Cut
 cuts [] = []
-cuts (event ∷ events) = record { between = []; here = event; older = events } ∷ map (below event) (cuts events)
+cuts (event ∷ events) = record { between = []; here = event; older = events } ∷ map (with_between event) (cuts events)
 
 -- whether an event is a release, or a press of a modifier key, that the pattern doesn't fit
 abbrev pub is_skipped : Pattern → Event → Bool

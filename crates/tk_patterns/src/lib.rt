@@ -13,6 +13,7 @@ mod laws;
 mod own;
 mod rests;
 mod same;
+mod seeking;
 mod step;
 mod table;
 mod verdict;

@@ -1,4 +1,4 @@
-ghost use Rattle.std.specs.Prelude.{◌≡◌, [], ◌∷◌, ◌++◌, ◌<◌, nat_le, Err, IfOk, OnOk, OnErr, IsOkUnless, MatchBool, length, map, position};
+ghost use Rattle.std.specs.Prelude.{◌≡◌, [], ◌∷◌, ◌++◌, ◌<◌, nat_le, Err, IfOk, OnOk, OnErr, IsOkUnless, MatchBool, length, map};
 ghost use Rattle.std.specs.List.{remove};
 ghost use Rattle.std.specs.Option.{option_copied};
 ghost use Rattle.tk_patterns.specs.Own.{has_tag, is_of, binding_of, most_bindings, script_of, sequences_of, refuses, with_script_at, with_binding, without_binding, without_tag};
@@ -10,6 +10,7 @@ ghost use Rattle.tk_virtual.specs.Virtual.{meanings_of};
 use crate::binding::{Binding, has_tag, is_of};
 use crate::fault::BindFault;
 use crate::filing::number_of;
+use crate::seeking::{Wanted, place_of, script_at};
 use crate::winning::winner;
 use crate::{Buckets, History};
 use std::alloc::{AllocError, Global};
@@ -56,14 +57,16 @@ impl OwnBindings {
     /// The script that an event runs for a tag.
     pub(crate) fn winner<'a>(
         &'a self,
+        alloc: Global,
         tag: &str,
         event: &Event,
         history: &History,
         virtuals: &'a VirtualPairs,
-    ) -> Option<&'a Text>
-        ensures { option_copied result ≡ winner (meanings_of virtuals.now) tag.now event.now history.now self.now }
+    ) -> Result<Option<&'a Text>, AllocError>
+        ensures { IfOk result (λ script. option_copied script ≡ winner (meanings_of virtuals.now) tag.now event.now history.now self.now) }
     {
         winner(
+            alloc,
             self.bindings.as_slice(),
             &self.filed,
             tag,
@@ -92,8 +95,9 @@ impl OwnBindings {
         };
         match place_of(
             self.bindings.as_slice(),
+            &self.filed,
             binding.tag.as_str(),
-            &binding.sequence,
+            Wanted::Sequence(&binding.sequence),
         ) {
             Some(place) => {
                 let script = script_in(binding);
@@ -140,11 +144,9 @@ impl OwnBindings {
     pub(crate) fn script(&self, tag: &str, sequence: &Sequence) -> Option<&Text>
         ensures { option_copied result ≡ script_of tag.now sequence.now self.now }
     {
-        let binding = self
-            .bindings
-            .iter()
-            .find(|binding| is_of(binding, tag, sequence))?;
-        Some(&binding.script)
+        let bindings = self.bindings.as_slice();
+        let place = place_of(bindings, &self.filed, tag, Wanted::Sequence(sequence));
+        script_at(bindings, place)
     }
 
     /// The sequences of a tag, in the order of registration.
@@ -168,15 +170,6 @@ fn sequences_of(alloc: Global, bindings: &[Binding], tag: &str) -> Result<Vec<Se
         list.push(sequence)?;
     }
     Ok(list)
-}
-
-/// Where the binding of a tag for a sequence stands.
-fn place_of(bindings: &[Binding], tag: &str, sequence: &Sequence) -> Option<usize>
-    ensures { result ≡ position (is_of tag.now sequence.now) bindings.now }
-{
-    bindings
-        .iter()
-        .position(|binding| is_of(binding, tag, sequence))
 }
 
 /// The script of a binding that isn't kept.

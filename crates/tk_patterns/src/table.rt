@@ -119,7 +119,7 @@ impl BindTable {
         ensures { IfOk result (λ script. script
             ≡ winner (meanings_of virtuals.now) tag.now event.now history.now (own_of owner self.now)) }
     {
-        match self.chosen(owner, tag, event, history, virtuals) {
+        match self.chosen(owner, tag, event, history, virtuals)? {
             Some(script) => Ok(Some(script.copy()?)),
             None => Ok(None),
         }
@@ -133,12 +133,14 @@ impl BindTable {
         event: &Event,
         history: &History,
         virtuals: &'a VirtualPairs,
-    ) -> Option<&'a Text>
-        ensures { option_copied result
-            ≡ winner (meanings_of virtuals.now) tag.now event.now history.now (own_of owner self.now) }
+    ) -> Result<Option<&'a Text>, AllocError>
+        ensures { IfOk result (λ script. option_copied script
+            ≡ winner (meanings_of virtuals.now) tag.now event.now history.now (own_of owner self.now)) }
     {
-        let own = self.owners.get(&owner)?;
-        own.winner(tag, event, history, virtuals)
+        match self.owners.get(&owner) {
+            Some(own) => own.winner(self.alloc, tag, event, history, virtuals),
+            None => Ok(None),
+        }
     }
 }
 

@@ -1,73 +1,63 @@
 //! Which binding of a tag an event runs.
-ghost use Rattle.std.specs.Prelude.{◌≡◌, ℕ, Some, None, map, option_map, slice_get};
+ghost use Rattle.std.specs.Prelude.{◌≡◌, ℕ, false, Some, None, map, filter, option_map, slice_get, IfOk};
 ghost use Rattle.std.specs.Option.{option_copied};
-ghost use Rattle.tk_patterns.specs.Filed.{numbers_of, HasStampAt};
+ghost use Rattle.tk_patterns.specs.Filed.{numbers_of, stamps_of, HasStampAt, IsRising};
 ghost use Rattle.tk_patterns.specs.Rests.{first_of, earlier};
-ghost use Rattle.tk_patterns.specs.Filing.{number_of};
-ghost use Rattle.tk_patterns.specs.Own.{is_of, script_of};
-ghost use Rattle.tk_patterns.specs.Same.{same_sequence};
+ghost use Rattle.tk_patterns.specs.Filing.{number_of, has_both, is_number, is_number_of_names};
 ghost use Rattle.tk_patterns.specs.Shown.{shown};
 ghost use Rattle.tk_patterns.specs.Named.{of_matching, of_pairs};
 ghost use Rattle.tk_patterns.specs.Winner.{through, of_sequence, of_binding, candidates, replaced, held_at_last, winner};
-ghost use Rattle.tk_virtual.specs.Virtual.{meanings_of};
+ghost use Rattle.tk_virtual.specs.Classes.{class_number, is_of_class};
+ghost use Rattle.tk_virtual.specs.Virtual.{has_name, meanings_of};
 
 use crate::binding::{Binding, has_tag};
 use crate::candidate::{Contender, beats};
-use crate::filing::{stamps_of_any, stamps_of_button, stamps_of_key, stamps_of_virtuals};
+use crate::filing::{
+    detail_of, has_both, stamps_of_any, stamps_of_button, stamps_of_key, stamps_of_names,
+};
+use crate::seeking::{Wanted, place_of, script_at};
 use crate::{Buckets, History, earlier, first_of, past};
+use std::alloc::{AllocError, Global};
 use tcl_text::Text;
-use tk_sequences::{Event, EventKind, EventType, Sequence, VirtualName};
-use tk_virtual::{Pair, VirtualPairs};
+use tk_sequences::{Detail, Event, EventKind, EventType, Sequence, VirtualName};
+use tk_virtual::{Pair, VirtualPairs, class_number};
 
 /// The script of the binding that wins.
 pub(crate) fn winner<'a>(
+    alloc: Global,
     bindings: &'a [Binding],
     filed: &Buckets,
     tag: &str,
     event: &Event,
     history: &History,
     virtuals: &'a VirtualPairs,
-) -> Option<&'a Text>
+) -> Result<Option<&'a Text>, AllocError>
     requires { numbers_of filed.now ≡ map number_of bindings.now }
-    ensures { option_copied result ≡ winner (meanings_of virtuals.now) tag.now event.now history.now bindings.now }
+    ensures { IfOk result (λ script. option_copied script ≡ winner (meanings_of virtuals.now) tag.now event.now history.now bindings.now) }
 {
     match &event.kind {
         EventKind::Physical(kind) => {
-            Some(holder_of(bindings, filed, *kind, tag, event, history, virtuals)?.script)
+            let holder = holder_of(alloc, bindings, filed, *kind, tag, event, history, virtuals)?;
+            Ok(script_held(holder))
         }
-        EventKind::Virtual(name) => script_of(bindings, tag, name),
+        EventKind::Virtual(name) => {
+            let place = place_of(bindings, filed, tag, Wanted::Name(name));
+            Ok(script_at(bindings, place))
+        }
     }
 }
 
-/// The script of a tag for a virtual event.
-fn script_of<'a>(bindings: &'a [Binding], tag: &str, name: &VirtualName) -> Option<&'a Text>
-    ensures { option_copied result ≡ script_of tag.now (Sequence.Virtual name.now) bindings.now }
+/// The script of who holds.
+fn script_held<'a>(holder: Option<Contender<'a>>) -> Option<&'a Text>
+    ensures { option_copied result ≡ option_map (λ held. held.script) (option_map shown holder.entry) }
 {
-    let binding = bindings
-        .iter()
-        .find(|binding| is_of_name(binding, tag, name))?;
-    Some(&binding.script)
+    Some(holder?.script)
 }
 
-/// Whether a binding is the one of a tag for a virtual event.
-fn is_of_name(binding: &Binding, tag: &str, name: &VirtualName) -> bool
-    ensures { result ≡ is_of tag.now (Sequence.Virtual name.now) binding.now }
-{
-    has_tag(binding, tag) && is_name(&binding.sequence, name)
-}
-
-fn is_name(sequence: &Sequence, name: &VirtualName) -> bool
-    ensures { result ≡ same_sequence sequence.now (Sequence.Virtual name.now) }
-{
-    match sequence {
-        Sequence::Virtual(other) => other.as_str() == name.as_str(),
-        Sequence::Physical(_) => false,
-    }
-}
-
-/// Who holds after all candidates of a tag. They are found where those for the event's key, for its button, for any, and for virtual events are
-/// filed, and gone through in the order of registration.
+/// Who holds after all candidates of a tag. They are found where those for the event's key, for its button, for any, and for the virtual events that
+/// have pairs for these are filed.
 fn holder_of<'a>(
+    alloc: Global,
     bindings: &'a [Binding],
     filed: &Buckets,
     kind: EventType,
@@ -75,16 +65,45 @@ fn holder_of<'a>(
     event: &Event,
     history: &History,
     virtuals: &'a VirtualPairs,
+) -> Result<Option<Contender<'a>>, AllocError>
+    requires filed { numbers_of filed.now ≡ map number_of bindings.now }
+    requires kind { event.now.kind ≡ EventKind.Physical kind }
+    ensures { IfOk result (λ holder. option_map shown holder
+        ≡ held_at_last None (candidates event.now history.now (meanings_of virtuals.now) tag.now bindings.now)) }
+{
+    let any = stamps_of_any(filed, tag, kind);
+    let names = stamps_of_names(alloc, filed, tag, kind, event, virtuals)?;
+    let named = names.as_slice();
+    Ok(holder_among(
+        bindings, filed, any, named, kind, tag, event, history, virtuals,
+    ))
+}
+
+/// The same, of the bindings for any key or button and those of virtual events that are filed under these stamps. All are gone through in the order
+/// of registration.
+fn holder_among<'a>(
+    bindings: &'a [Binding],
+    filed: &Buckets,
+    any: &[u64],
+    named: &[u64],
+    kind: EventType,
+    tag: &str,
+    event: &Event,
+    history: &History,
+    virtuals: &'a VirtualPairs,
 ) -> Option<Contender<'a>>
     requires filed { numbers_of filed.now ≡ map number_of bindings.now }
+    requires rising { IsRising filed.now }
+    requires any { any.now ≡ stamps_of (is_number tag.now kind None) filed.now }
+    requires named { named.now ≡ stamps_of (is_number_of_names tag.now kind event.now virtuals.now) filed.now }
     requires kind { event.now.kind ≡ EventKind.Physical kind }
     ensures { option_map shown result
         ≡ held_at_last None (candidates event.now history.now (meanings_of virtuals.now) tag.now bindings.now) }
 {
+    let mut any = any;
+    let mut named = named;
     let mut by_key = stamps_of_key(filed, tag, kind, event.key);
     let mut by_button = stamps_of_button(filed, tag, kind, event.button);
-    let mut any = stamps_of_any(filed, tag, kind);
-    let mut named = stamps_of_virtuals(filed, tag);
     let mut holder = None;
     while let Some(stamp) = first_of_all(by_key, by_button, any, named) {
         let Some(binding) = binding_at(bindings, filed, stamp) else {
@@ -178,7 +197,56 @@ fn after_pairs<'a>(
     ensures { option_map shown result ≡ held_at_last (option_map shown holder.entry)
         (through event.now history.now name.now script.now (meanings_of virtuals.now)) }
 {
-    after_named(holder, script, event, history, virtuals.named(name))
+    if has_both(event) {
+        return after_named(holder, script, event, history, virtuals.named(name));
+    }
+    match &event.kind {
+        EventKind::Physical(kind) => {
+            after_classes(holder, *kind, name, script, event, history, virtuals)
+        }
+        EventKind::Virtual(_) => {
+            after_named(holder, script, event, history, virtuals.named(name))
+        }
+    }
+}
+
+/// Who holds after the pairs of one name whose sequences match, for an event with a key or a button or neither. Those for any key or button come
+/// first, since each of the others is more specific.
+fn after_classes<'a>(
+    holder: Option<Contender<'a>>,
+    kind: EventType,
+    name: &VirtualName,
+    script: &'a Text,
+    event: &Event,
+    history: &History,
+    virtuals: &'a VirtualPairs,
+) -> Option<Contender<'a>>
+    requires kind { event.now.kind ≡ EventKind.Physical kind }
+    requires one { has_both event.now.key event.now.button ≡ false }
+    ensures { option_map shown result ≡ held_at_last (option_map shown holder.entry)
+        (of_pairs event.now history.now script.now (filter (has_name name.now) virtuals.now)) }
+{
+    let any = pairs_of(virtuals, name, kind, None);
+    let holder = after_named(holder, script, event, history, any);
+    match detail_of(event) {
+        Some(detail) => {
+            let own = pairs_of(virtuals, name, kind, Some(detail));
+            after_named(holder, script, event, history, own)
+        }
+        None => holder,
+    }
+}
+
+/// The pairs of a name whose last pattern has a type and a detail.
+fn pairs_of<'a>(
+    virtuals: &'a VirtualPairs,
+    name: &VirtualName,
+    kind: EventType,
+    detail: Option<Detail>,
+) -> &'a [Pair]
+    ensures { result.now ≡ filter (has_name name.now) (filter (is_of_class (class_number kind detail)) virtuals.now) }
+{
+    virtuals.of_class(class_number(kind, detail)).named(name)
 }
 
 /// Who holds after the pairs of one name whose sequences match.

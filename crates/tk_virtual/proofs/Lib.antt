@@ -1,3 +1,4 @@
+pub mod ClassLemmas
 pub mod NamedLemmas
 pub mod PairLemmas
 pub mod SameLemmas

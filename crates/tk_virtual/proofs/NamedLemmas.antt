@@ -11,7 +11,7 @@ use Rattle.tk_virtual.specs.Virtual.{has_name, is_same, without_name, without_pa
 use Rattle.tk_virtual.specs.declared.pair.Pair.{Pair}
 use Rattle.tk_virtual.proofs.SameLemmas.{same_parts}
 
-filters_commute : (p q : Pair → Bool) (pairs : List Pair) → filter p (filter q pairs) ≡ filter q (filter p pairs)
+pub filters_commute : (p q : Pair → Bool) (pairs : List Pair) → filter p (filter q pairs) ≡ filter q (filter p pairs)
 filters_commute p q [] = refl
 filters_commute p q (pair ∷ pairs) = by (p pair) (q pair) refl refl (filters_commute p q pairs)
   where
@@ -26,7 +26,7 @@ filters_commute p q (pair ∷ pairs) = by (p pair) (q pair) refl refl (filters_c
     by false false first second rest = rest
 
 -- a test that all of a name pass takes none of them out
-kept_all : (p q : Pair → Bool) → ((pair : Pair) → q pair ≡ true → p pair ≡ true) → (pairs : List Pair) → filter q (filter p pairs) ≡ filter q pairs
+pub kept_all : (p q : Pair → Bool) → ((pair : Pair) → q pair ≡ true → p pair ≡ true) → (pairs : List Pair) → filter q (filter p pairs) ≡ filter q pairs
 kept_all p q passes [] = refl
 kept_all p q passes (pair ∷ pairs) = by (p pair) (q pair) refl refl (passes pair) (kept_all p q passes pairs)
   where

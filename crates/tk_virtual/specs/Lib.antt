@@ -1,4 +1,5 @@
 -- What the contracts cite.
+pub mod Classes
 pub mod FaultTexts
 pub mod Named
 pub mod Virtual

@@ -4,7 +4,8 @@ use Rattle.std.specs.List.{list_any}
 use Rattle.std.specs.Map.{lookup}
 use Rattle.std.specs.Option.{option_map_or}
 use Rattle.std.specs.Str.{bytes_eq}
-use Rattle.tk_sequences.specs.Reading.{in_brackets, name_in, parsed}
+use Rattle.tk_sequences.specs.Reading.{parsed}
+use Rattle.tk_sequences.specs.Words.{in_brackets, name_in}
 use Rattle.tk_sequences.specs.Writing.{canonical}
 use Rattle.tk_sequences.specs.declared.fault.SequenceFault.{SequenceFault}
 use Rattle.tk_sequences.specs.declared.fault.SequenceFault.TheVariants as sequence_faults

@@ -1,13 +1,15 @@
 //! The pairs of one application.
-ghost use Rattle.std.specs.Prelude.{◌≡◌, ◌≢◌, ◌-◌, false, [], ◌∷◌, ◌++◌, length, take, map, filter, IfOk, IfErr, OnOk, OnErr, Ok, Err};
+ghost use Rattle.std.specs.Prelude.{◌≡◌, ◌≢◌, ℕ, ◌-◌, false, [], ◌∷◌, ◌++◌, length, take, map, filter, IfOk, IfErr, OnOk, OnErr, Ok, Err};
 ghost use Rattle.std.specs.List.{list_any};
 ghost use Rattle.std.specs.Str.{bytes_eq};
+ghost use Rattle.tk_virtual.specs.Classes.{is_of_class};
 ghost use Rattle.tk_virtual.specs.Virtual.{added, all_added, has_name, is_same, names_of, with_name, with_pair, without_name, without_pair, written_names, written_of};
 
+use crate::class::sequence_class;
+use crate::classes::{delete_name_in, file_in, take_last_in, take_out_in};
 use crate::fault::VirtualFault;
-use crate::named::{file, pairs_of, take_out, take_out_name};
+use crate::list::PairList;
 use crate::pair::{Pair, pair_meant};
-use indexmap::IndexSet;
 use std::alloc::{AllocError, Global};
 use std::collections::HashMap;
 use std::marker::Model;
@@ -19,22 +21,23 @@ pub const MOST_PAIRS: usize = 4_096;
 
 /// The virtual events of one application: pairs of a name and a sequence, in the order in which they were added (event(n)).
 pub struct VirtualPairs {
-    pairs: IndexSet<Pair>,
-    /// The same by their names.
-    named: HashMap<String, Vec<Pair>>,
+    pairs: PairList,
+    /// The same by their classes.
+    classes: HashMap<u64, PairList>,
+    /// What a class has that none is of.
+    none: PairList,
 }
 
 impl Model for VirtualPairs {
-    ghost use Rattle.std.specs.Prelude.{◌≡◌, ℕ, List, filter};
+    ghost use Rattle.std.specs.Prelude.{◌≡◌, ℕ, List, [], filter};
     ghost use Rattle.tk_virtual.specs.declared.pair.Pair.{Pair};
-    ghost use Rattle.tk_virtual.specs.Named.{listed};
-    ghost use Rattle.tk_virtual.specs.Virtual.{has_name};
+    ghost use Rattle.tk_virtual.specs.Classes.{is_of_class, listed_in};
 
     ghost Value = { List Pair };
 
-    ghost view = { λ p. p.pairs.keys };
+    ghost view = { λ p. p.pairs };
 
-    ghost invariant = { λ p. (name : List ℕ) → listed name p.named ≡ filter (has_name name) p.pairs.keys };
+    ghost invariant = { λ p. (p.none ≡ []) × ((class : ℕ) → listed_in class p.classes.entries ≡ filter (is_of_class class) p.pairs) };
 }
 
 impl VirtualPairs {
@@ -43,8 +46,9 @@ impl VirtualPairs {
         ensures { result ≡ [] }
     {
         VirtualPairs {
-            pairs: IndexSet::new(alloc),
-            named: HashMap::new(alloc),
+            pairs: PairList::new(alloc),
+            classes: HashMap::new(alloc),
+            none: PairList::new(alloc),
         }
     }
 
@@ -52,14 +56,24 @@ impl VirtualPairs {
     pub fn all(&self) -> &[Pair]
         ensures { result.now ≡ self.now }
     {
-        self.pairs.as_slice()
+        self.pairs.all()
     }
 
     /// The pairs of a name, in the order in which they were added; they are found by hashing.
     pub fn named(&self, name: &VirtualName) -> &[Pair]
         ensures { result.now ≡ filter (has_name name.now) self.now }
     {
-        pairs_of(&self.named, name.as_str())
+        self.pairs.named(name)
+    }
+
+    /// The pairs whose sequence is of a class, in the order in which they were added; they are found by hashing.
+    pub fn of_class(&self, class: u64) -> &PairList
+        ensures { result.now ≡ filter (is_of_class class) self.now }
+    {
+        match self.classes.get(&class) {
+            Some(pairs) => pairs,
+            None => &self.none,
+        }
     }
 
     /// Adds a pair of a name, in its `<<` and `>>`, and a sequence (`event add` of event(n)); one that is there is not added again.
@@ -138,11 +152,11 @@ impl VirtualPairs {
         ensures ok { OnOk result (self.new ≡ self.old ++ pair ∷ []) }
         ensures err { OnErr result (self.new ≡ self.old) }
     {
-        self.pairs.insert(pair.copy(alloc)?)?;
-        match file(alloc, &mut self.named, pair) {
+        self.pairs.push(alloc, pair.copy(alloc)?)?;
+        match file_in(alloc, &mut self.classes, pair) {
             Ok(()) => Ok(()),
             Err(refused) => {
-                self.pairs.pop();
+                self.pairs.take_last();
                 Err(refused)
             }
         }
@@ -161,26 +175,28 @@ impl VirtualPairs {
     fn take_last(&mut self)
         ensures { self.new ≡ take (length self.old - 1) self.old }
     {
-        let Some(pair) = self.pairs.pop() else {
+        let Some(pair) = self.pairs.take_last() else {
             return;
         };
-        take_out(&mut self.named, &pair);
+        take_last_in(&mut self.classes, sequence_class(&pair.sequence));
     }
 
     /// Takes out all pairs of a name (`event delete` of event(n)). It takes no memory.
     pub fn delete_name(&mut self, name: &VirtualName)
         ensures { self.new ≡ without_name name.now self.old }
     {
-        leave_out_name(&mut self.pairs, name.as_str());
-        take_out_name(&mut self.named, name.as_str());
+        delete_name_in(&mut self.classes, self.pairs.named(name), name);
+        self.pairs.delete_name(name);
     }
 
     /// Takes out a pair, if it is there. It takes no memory.
     pub fn delete_pair(&mut self, wanted: &Pair)
         ensures { self.new ≡ without_pair wanted.now self.old }
     {
-        self.pairs.shift_remove(wanted);
-        take_out(&mut self.named, wanted);
+        let Some(pair) = self.pairs.delete_pair(wanted) else {
+            return;
+        };
+        take_out_in(&mut self.classes, sequence_class(&pair.sequence), wanted);
     }
 
     /// The names that have pairs, in their brackets, each where it first stands (`event info` of event(n)).
@@ -201,13 +217,6 @@ impl VirtualPairs {
     {
         written_forms(alloc, self.named(name))
     }
-}
-
-/// Leaves the pairs that haven't a name.
-fn leave_out_name(pairs: &mut IndexSet<Pair>, name: &str)
-    ensures { pairs.new.keys ≡ without_name name.now pairs.old.keys }
-{
-    pairs.retain(|pair| !pair.has_name(name));
 }
 
 /// The canonical forms of the sequences.
@@ -252,6 +261,10 @@ fn has_among(names: &[VirtualName], name: &VirtualName) -> bool
 /// By hand: a proof sees one call where it is dropped, and not its parts.
 impl Drop for VirtualPairs {
     fn drop(self) {
-        let VirtualPairs { pairs: _, named: _ } = self;
+        let VirtualPairs {
+            pairs: _,
+            classes: _,
+            none: _,
+        } = self;
     }
 }

@@ -1,6 +1,6 @@
 //! The table of all applications.
 ghost use Rattle.std.specs.Prelude.{◌≡◌, ◌≢◌, [], length, take, filter, IfOk, IfErr, OnOk, OnErr, Ok, Err};
-ghost use Rattle.tk_sequences.specs.Reading.{name_in};
+ghost use Rattle.tk_sequences.specs.Words.{name_in};
 ghost use Rattle.tk_virtual.specs.Virtual.{LeavesOthers, added, all_added, deleted, name_or_fault, own_of, pairs_meant, without_name, without_pair, without_pairs, written_names, written_of};
 
 use crate::fault::VirtualFault;

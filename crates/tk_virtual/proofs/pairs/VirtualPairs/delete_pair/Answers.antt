@@ -1,23 +1,22 @@
-use Rattle.std.proofs.Common.{◌≡◌, false, List, filter, sym, ap, ◌∙◌, subst}
-use Rattle.std.specs.List.{list_any}
-use Rattle.tk_virtual.specs.Named.{listed}
-use Rattle.tk_virtual.specs.Virtual.{has_name, is_same, without_pair}
-use Rattle.tk_virtual.specs.declared.pair.Pair.{Pair}
-use Rattle.tk_virtual.proofs.NamedLemmas.{listed_without}
-use Rattle.tk_virtual.proofs.PairLemmas.{removed}
+use Rattle.std.proofs.Common.{◌≡◌, filter, sym, ap, ◌∙◌, subst}
+use Rattle.tk_virtual.specs.Classes.{is_of_class, listed_in}
+use Rattle.tk_virtual.specs.Virtual.{is_same, without_pair}
+use Rattle.tk_virtual.proofs.ClassLemmas.{none_goes, filed_without}
 use Rattle.tk_virtual.proofs.pairs.VirtualPairs.delete_pair.Goals as goal
 
 pub invariant_of-self : goal.invariant_of-self
-invariant_of-self c = λ name.
-    let wanted = c.args.wanted.now in
-    let pairs = c.self.inside.pairs.keys in
-    let none = subst (λ (l : List Pair). list_any (is_same wanted) l ≡ false) c.shift_remove.ensures.keys c.shift_remove.ensures.updates.1 in
-    listed_without pairs (λ name. listed name c.self.inside.named) (λ name. listed name c.take_out.new.named) c.self.invariant wanted c.take_out.ensures.own c.take_out.ensures.others name
-    ∙ ap (filter (has_name name)) (sym (c.shift_remove.ensures.keys ∙ removed (is_same wanted) pairs none))
+invariant_of-self c = (
+  c.self.invariant.0,
+  λ class. c.self.invariant.1 class
+      ∙ ap (filter (is_of_class class)) (sym (c.delete_pair.ensures.others ∙ none_goes (is_same c.args.wanted.now) c.self.inside.pairs (sym c.delete_pair.ensures.taken ∙ c.in_default.is))),
+)
 
-pub returns : goal.returns
-returns c =
-    let wanted = c.args.wanted.now in
-    let pairs = c.self.inside.pairs.keys in
-    let none = subst (λ (l : List Pair). list_any (is_same wanted) l ≡ false) c.shift_remove.ensures.keys c.shift_remove.ensures.updates.1 in
-    c.shift_remove.ensures.keys ∙ removed (is_same wanted) pairs none ∙ ap (without_pair wanted) c.self.view_is
+pub invariant_of-self-2 : goal.invariant_of-self-2
+invariant_of-self-2 c = (
+  c.self.invariant.0,
+  λ class. filed_without c.self.inside.pairs (λ class. listed_in class c.self.inside.classes.entries) (λ class. listed_in class c.take_out_in.new.classes.entries) c.self.invariant.1 c.args.wanted.now c.in-Some.pair
+      (sym c.in-Some.ensures.taken) (sym c.delete_pair.ensures.pairs ∙ c.delete_pair.ensures.others)
+      (subst (λ n. listed_in n c.take_out_in.new.classes.entries ≡ without_pair c.args.wanted.now (listed_in n c.self.inside.classes.entries)) c.sequence_class.ensures c.take_out_in.ensures.own)
+      (λ other differ. c.take_out_in.ensures.others other (λ is. differ (is ∙ c.sequence_class.ensures))) class
+      ∙ ap (filter (is_of_class class)) (sym c.delete_pair.ensures.pairs),
+)

@@ -1,5 +1,5 @@
 use Rattle.std.proofs.Common.{◌≡◌, take, map}
-use Rattle.tk_sequences.specs.Reading.{in_brackets}
+use Rattle.tk_sequences.specs.Words.{in_brackets}
 use Rattle.tk_virtual.proofs.pairs.VirtualPairs.names.Given as goal
 
 abbrev pub invariant-loop-name : goal.invariant-loop-name

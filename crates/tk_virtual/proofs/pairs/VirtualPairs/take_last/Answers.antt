@@ -1,14 +1,18 @@
-use Rattle.std.proofs.Common.{filter, ap, ◌∙◌}
-use Rattle.tk_virtual.specs.Named.{listed}
-use Rattle.tk_virtual.specs.Virtual.{has_name, without_pair}
-use Rattle.tk_virtual.proofs.NamedLemmas.{listed_without}
-use Rattle.tk_virtual.proofs.PairLemmas.{without_last}
+use Rattle.std.proofs.Common.{◌≡◌, ◌-◌, length, take, append-nil, filter, sym, ap, ◌∙◌, subst}
+use Rattle.tk_virtual.specs.Classes.{is_of_class, listed_in}
+use Rattle.tk_virtual.proofs.ClassLemmas.{filed_last}
 use Rattle.tk_virtual.proofs.pairs.VirtualPairs.take_last.Goals as goal
 
+pub invariant_of-self : goal.invariant_of-self
+invariant_of-self c = (
+  c.self.invariant.0,
+  λ class. c.self.invariant.1 class ∙ ap (filter (is_of_class class)) (c.in_default.ensures.last ∙ append-nil c.take_last.new.self),
+)
+
 pub invariant_of-self-2 : goal.invariant_of-self-2
-invariant_of-self-2 c = λ name.
-    let pair = c.in-Some.pair in
-    let pairs = c.self.inside.pairs.keys in
-    let rest = c.pop.new.self.keys in
-    listed_without pairs (λ name. listed name c.self.inside.named) (λ name. listed name c.take_out.new.named) c.self.invariant pair c.take_out.ensures.own c.take_out.ensures.others name
-    ∙ ap (filter (has_name name)) (ap (without_pair pair) c.in-Some.ensures.keys ∙ without_last pair rest c.in-Some.ensures.updates.1)
+invariant_of-self-2 c = (
+  c.self.invariant.0,
+  λ class. filed_last c.self.inside.pairs (λ class. listed_in class c.self.inside.classes.entries) (λ class. listed_in class c.take_last_in.new.classes.entries) c.self.invariant.1 c.take_last.new.self c.in-Some.pair c.in-Some.ensures.last
+      (subst (λ n. listed_in n c.take_last_in.new.classes.entries ≡ take (length (listed_in n c.self.inside.classes.entries) - 1) (listed_in n c.self.inside.classes.entries)) c.sequence_class.ensures c.take_last_in.ensures.own)
+      (λ other differ. c.take_last_in.ensures.others other (λ is. differ (is ∙ c.sequence_class.ensures))) class,
+)

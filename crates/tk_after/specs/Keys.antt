@@ -9,7 +9,7 @@ use Rattle.std.specs.declared.cmp.Ordering.{Ordering}
 use Rattle.std.specs.Ordering.{nat_cmp, ordering_then}
 use Rattle.tk_base.specs.Bag.{Item, listed, values_of}
 use Rattle.tk_base.specs.declared.counter.Counter.{Counter}
-use Rattle.tk_after.specs.declared.entry.Entry.{Entry}
+use Rattle.tk_after.specs.declared.waiting.WaitingScript.{WaitingScript}
 use Rattle.tk_after.specs.declared.keys.DueKey.{DueKey}
 use Rattle.tk_after.specs.declared.keys.Name.{Name}
 use Rattle.tk_after.specs.Timers.{Held, own_of, entry_with, IsKept}
@@ -35,47 +35,47 @@ name owner id = record { owner = owner; id = id }
 
 -- the timers by when they are due, and the idle scripts, each under its key
 pub record Stored : Type 0 where
-  pub timers : List (DueKey × Entry)
-  pub idle : List (Name × Entry)
+  pub timers : List (DueKey × WaitingScript)
+  pub idle : List (Name × WaitingScript)
 
-abbrev pub number_of : Entry → ℕ
+abbrev pub number_of : WaitingScript → ℕ
 number_of entry = entry.id
 
-abbrev pub timer_item : DueKey × Entry → Item Entry
+abbrev pub timer_item : DueKey × WaitingScript → Item WaitingScript
 timer_item timer = record { owner = timer.0.owner; value = timer.1 }
 
-abbrev pub idle_item : Name × Entry → Item Entry
+abbrev pub idle_item : Name × WaitingScript → Item WaitingScript
 idle_item idle = record { owner = idle.0.owner; value = idle.1 }
 
 -- all entries, each with its application
-abbrev pub bag_of : Stored → List (Item Entry)
+abbrev pub bag_of : Stored → List (Item WaitingScript)
 bag_of stored = map timer_item stored.timers ++ map idle_item stored.idle
 
 -- what one application has, in the order of numbers
-abbrev pub entries_in : ℕ → Stored → List Entry
+abbrev pub entries_in : ℕ → Stored → List WaitingScript
 entries_in owner stored = listed number_of owner (bag_of stored)
 
 -- a timer stands under its own moment and number, an idle script under its own number
-abbrev pub IsTimer : DueKey × Entry → Type 0
+abbrev pub IsTimer : DueKey × WaitingScript → Type 0
 IsTimer timer = (timer.0.id ≡ timer.1.id) × (timer.1.due ≡ Some timer.0.due)
 
-abbrev pub IsIdle : Name × Entry → Type 0
+abbrev pub IsIdle : Name × WaitingScript → Type 0
 IsIdle idle = (idle.0.id ≡ idle.1.id) × (idle.1.due ≡ None)
 
 abbrev pub AreKeyed : Stored → Type 0
 AreKeyed stored = AllByRecursion IsTimer stored.timers × AllByRecursion IsIdle stored.idle
 
 -- the entry with this number, if it is listed, is due then
-abbrev pub IsMarked : ℕ → Option ℕ → List Entry → Type 0
+abbrev pub IsMarked : ℕ → Option ℕ → List WaitingScript → Type 0
 IsMarked id due entries = IfSome (entry_with id entries) (λ entry. entry.due ≡ due)
 
 -- the entry under the key of this number and moment
-abbrev pub stored_at : ℕ → ℕ → Option ℕ → Stored → Option Entry
+abbrev pub stored_at : ℕ → ℕ → Option ℕ → Stored → Option WaitingScript
 stored_at owner id (Some due) stored = lookup (is_at (due_cmp (due_key due owner id))) stored.timers
 stored_at owner id None stored = lookup (is_at (name_cmp (name owner id))) stored.idle
 
 -- an entry more, under its key
-abbrev pub given : ℕ → ℕ → Option ℕ → Entry → Stored → Stored
+abbrev pub given : ℕ → ℕ → Option ℕ → WaitingScript → Stored → Stored
 given owner id (Some due) entry stored = record stored { timers = insert_entry due_cmp stored.timers (due_key due owner id) entry }
 given owner id None entry stored = record stored { idle = insert_entry name_cmp stored.idle (name owner id) entry }
 
@@ -94,7 +94,7 @@ pub record Mark : Type 0 where
 abbrev pub mark_number : Mark → ℕ
 mark_number mark = mark.id
 
-abbrev pub mark_of : Entry → Mark
+abbrev pub mark_of : WaitingScript → Mark
 mark_of entry = record { id = entry.id; due = entry.due }
 
 -- whether it is a timer that is due at this very moment

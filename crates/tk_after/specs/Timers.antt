@@ -5,59 +5,59 @@ use Rattle.std.specs.Map.{lookup}
 use Rattle.std.specs.Option.{option_map_or}
 use Rattle.tk_base.specs.Bag.{Item, listed}
 use Rattle.tk_base.specs.declared.counter.Counter.{Counter}
-use Rattle.tk_after.specs.declared.entry.Entry.{Entry}
+use Rattle.tk_after.specs.declared.waiting.WaitingScript.{WaitingScript}
 use Rattle.tcl_text.specs.Limits.{most_waiting}
 use Rattle.tk_base.specs.Counters.{next_of}
 
 -- what one application has waiting, in the order of its numbers, and the number that comes next
-pub record Own : Type 0 where
+pub record Timers : Type 0 where
   pub next_number : ℕ
-  pub entries : List Entry
+  pub entries : List WaitingScript
 
 -- all applications' parts: each one's counter, and the entries in any order
 pub record Held : Type 0 where
   pub counters : List (ℕ × Counter)
-  pub bag : List (Item Entry)
+  pub bag : List (Item WaitingScript)
 
 -- nothing was ever waiting
-abbrev pub fresh : Own
+abbrev pub fresh : Timers
 fresh = record { next_number = 0; entries = [] }
 
 -- what one application has, in the order of numbers
-abbrev pub entries_of : ℕ → Held → List Entry
+abbrev pub entries_of : ℕ → Held → List WaitingScript
 entries_of owner held = listed (λ entry. entry.id) owner held.bag
 
-abbrev pub own_of : ℕ → Held → Own
+abbrev pub own_of : ℕ → Held → Timers
 own_of owner held = record { next_number = next_of owner held.counters; entries = entries_of owner held }
 
 -- ---- one application
 
 -- 256 are listed, or the last number, 2^64 - 2, was given
-abbrev pub is_full : Own → Bool
+abbrev pub is_full : Timers → Bool
 is_full own = nat_le most_waiting (length own.entries) || nat_le (2 ^ 64 - 1) own.next_number
 
 -- one more at the end, with the next number; an idle script has no due moment
-abbrev pub with_entry : Option ℕ → List ℕ → Own → Own
+abbrev pub with_entry : Option ℕ → List ℕ → Timers → Timers
 with_entry due script own =
     record own { next_number = own.next_number + 1; entries = own.entries ++ record { id = own.next_number; due = due; script = script } ∷ [] }
 
 -- the one with this number, if it is listed
-abbrev pub entry_with : ℕ → List Entry → Option Entry
+abbrev pub entry_with : ℕ → List WaitingScript → Option WaitingScript
 entry_with id entries = find (λ entry. entry.id == id) entries
 
 -- all but the one with this number
-abbrev pub without : ℕ → Own → Own
+abbrev pub without : ℕ → Timers → Timers
 without id own = record own { entries = filter (λ entry. not (entry.id == id)) own.entries }
 
 -- the numbers that are listed, and those of them that are idle scripts
-abbrev pub ids : List Entry → List ℕ
+abbrev pub ids : List WaitingScript → List ℕ
 ids entries = map (λ entry. entry.id) entries
 
-abbrev pub idle_ids : List Entry → List ℕ
+abbrev pub idle_ids : List WaitingScript → List ℕ
 idle_ids entries = ids (filter (λ entry. is_none entry.due) entries)
 
 -- when the timers are due
-abbrev pub due_moments : List Entry → List ℕ
+abbrev pub due_moments : List WaitingScript → List ℕ
 due_moments entries = filter_map (λ entry. entry.due) entries
 
 -- the lesser of two numbers, of which there may be none
@@ -76,26 +76,26 @@ pub record IsLeastOf (xs : List ℕ) (m : ℕ) : Type 0 where
   pub least : All (λ x. m ≤ x) xs
 
 -- whether it is a timer that is due at this very moment
-abbrev pub is_due_at : ℕ → Entry → Bool
+abbrev pub is_due_at : ℕ → WaitingScript → Bool
 is_due_at moment entry = option_map_or (λ due. due == moment) entry.due false
 
 -- what runs first of what is due by a moment: of the timers with the earliest due moment the first made
-abbrev pub first_due : ℕ → List Entry → Option Entry
+abbrev pub first_due : ℕ → List WaitingScript → Option WaitingScript
 first_due moment entries = option_and_then (λ due. if nat_le due moment then find (is_due_at due) entries else None) (least (due_moments entries))
 
 -- a timer goes no later than another: it is due earlier, or at the same moment with a number that is no higher; idle scripts don't count
-abbrev pub GoesBy : ℕ → ℕ → Entry → Type 0
+abbrev pub GoesBy : ℕ → ℕ → WaitingScript → Type 0
 GoesBy due id other = IfSome other.due (λ its_due. (due ≤ its_due) × (due ≡ its_due → id ≤ other.id))
 
 -- a timer with this number and script is listed and due by the moment, and goes no later than any that is listed
-pub record IsFirstDue (moment : ℕ) (entries : List Entry) (id : ℕ) (script : List ℕ) : Type 0 where
+pub record IsFirstDue (moment : ℕ) (entries : List WaitingScript) (id : ℕ) (script : List ℕ) : Type 0 where
   pub due : ℕ
   pub in_time : due ≤ moment
   pub listed : Contains entries (record { id = id; due = Some due; script = script })
   pub least : All (GoesBy due id) entries
 
 -- no timer is due by the moment
-abbrev pub NothingDue : ℕ → List Entry → Type 0
+abbrev pub NothingDue : ℕ → List WaitingScript → Type 0
 NothingDue moment entries = All (λ entry. IfSome entry.due (λ due. moment < due)) entries
 
 -- ---- all applications
@@ -113,10 +113,10 @@ LeavesOthers owner old new = (other : ℕ) → other ≢ owner → own_of other 
 -- ---- what is kept
 
 -- numbers rise along the list, from low on, and all have been given
-abbrev pub IsNumbered : ℕ → List Entry → ℕ → Type 0
+abbrev pub IsNumbered : ℕ → List WaitingScript → ℕ → Type 0
 IsNumbered low [] next_number = low ≤ next_number
 IsNumbered low (entry ∷ entries) next_number = (low ≤ entry.id) × IsNumbered (entry.id + 1) entries next_number
 
-pub record IsKept (own : Own) : Type 0 where
+pub record IsKept (own : Timers) : Type 0 where
   pub numbered : IsNumbered 0 own.entries own.next_number
   pub few : length own.entries ≤ most_waiting

@@ -8,8 +8,8 @@ ghost use Rattle.tk_after.specs.After.{after_words, add_words, add_script, cance
 ghost use Rattle.tk_base.specs.Limits.{last_moment};
 
 use crate::answers::{name_of, no_event};
-use crate::entry::Entry;
 use crate::timers::Timers;
+use crate::waiting::WaitingScript;
 use std::alloc::{AllocError, Global};
 use tcl_text::answers::{answered, bad_option, wrong_args};
 use tcl_text::message::{Answer, limit, short_text};
@@ -189,7 +189,7 @@ fn names(alloc: Global, timers: &Timers, owner: usize) -> Result<Vec<Text>, Allo
 }
 
 /// The script and whether it is a timer's or an idle one.
-fn entry_info(alloc: Global, entry: &Entry) -> Result<Answer, AllocError>
+fn entry_info(alloc: Global, entry: &WaitingScript) -> Result<Answer, AllocError>
     ensures { IfOk result (λ answer.
         answer ≡ answers (list_form (entry.now.script ∷ kind_told entry.now.due ∷ []))) }
 {

@@ -3,12 +3,12 @@
 
 mod after;
 mod answers;
-mod entry;
 mod index;
 mod keys;
 mod scripts;
 mod timers;
+mod waiting;
 
 pub use after::after_command;
-pub use entry::Entry;
 pub use timers::Timers;
+pub use waiting::WaitingScript;

@@ -5,8 +5,8 @@ ghost use Rattle.tk_base.specs.Bag.{AllBelow, IsRising, without};
 ghost use Rattle.tk_after.specs.Keys.{entries_in, bag_of, taken, number_of, IsMarked};
 ghost use Rattle.tk_after.specs.Timers.{Held, entry_with, due_moments, IsNextDue};
 
-use crate::entry::Entry;
 use crate::keys::{DueKey, Name};
+use crate::waiting::WaitingScript;
 use std::alloc::{AllocError, Global};
 use std::collections::BTreeMap;
 use std::marker::Model;
@@ -15,8 +15,8 @@ use tk_base::Counter;
 /// The timers of all applications in one map, the one that is due first in front, and all idle scripts in one list by application and number.
 #[derive(Drop)]
 pub struct TimerScripts {
-    timers: BTreeMap<DueKey, Entry>,
-    idle: BTreeMap<Name, Entry>,
+    timers: BTreeMap<DueKey, WaitingScript>,
+    idle: BTreeMap<Name, WaitingScript>,
 }
 
 impl Model for TimerScripts {
@@ -41,7 +41,7 @@ impl TimerScripts {
     }
 
     /// Adds an entry whose number is above those of its application.
-    pub fn insert(&mut self, owner: usize, entry: Entry) -> Result<(), AllocError>
+    pub fn insert(&mut self, owner: usize, entry: WaitingScript) -> Result<(), AllocError>
         requires { AllBelow number_of entry.id (entries_in owner self.old) }
         ensures own { OnOk result (entries_in owner self.new
             ≡ entries_in owner self.old ++ entry ∷ []) }
@@ -67,7 +67,7 @@ impl TimerScripts {
     }
 
     /// The entry of a number, which is due at this moment, or an idle script where none is given.
-    pub fn get(&self, owner: usize, id: u64, due: Option<u64>) -> Option<&Entry>
+    pub fn get(&self, owner: usize, id: u64, due: Option<u64>) -> Option<&WaitingScript>
         requires rising { IsRising number_of (entries_in owner self.now) }
         requires marked { IsMarked id due (entries_in owner self.now) }
         ensures { option_copied result ≡ entry_with id (entries_in owner self.now) }
@@ -79,7 +79,7 @@ impl TimerScripts {
     }
 
     /// Takes the entry of a number out, which is due at this moment, or an idle script where none is given.
-    pub fn take(&mut self, owner: usize, id: u64, due: Option<u64>) -> Option<Entry>
+    pub fn take(&mut self, owner: usize, id: u64, due: Option<u64>) -> Option<WaitingScript>
         ensures exact { self.new ≡ taken owner id due self.old }
         ensures entry { IsRising number_of (entries_in owner self.old)
             → IsMarked id due (entries_in owner self.old)

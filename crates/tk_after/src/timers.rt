@@ -6,9 +6,9 @@ ghost use Rattle.tk_after.specs.Keys.{entries_in, marks_of, mark_of, mark_number
 ghost use Rattle.tk_after.specs.Timers.{own_of, entries_of, is_full, with_entry, entry_with, without, ids, idle_ids, IsKept, least, IsLeastOf, due_moments, first_due, IsFirstDue, NothingDue, IsNextDue, LeavesOthers};
 ghost use Rattle.tk_base.specs.Counters.{next_of, count_of, Counts};
 
-use crate::entry::Entry;
 use crate::index::TimerIndex;
 use crate::scripts::TimerScripts;
+use crate::waiting::WaitingScript;
 use std::alloc::{AllocError, Global};
 use std::collections::HashMap;
 use std::marker::Model;
@@ -110,7 +110,7 @@ impl Timers {
         let entry = self.scripts.take(owner, id, due)?;
         self.index.remove(owner, id);
         count_less(&mut self.counters, owner);
-        let Entry {
+        let WaitingScript {
             id: _,
             due: _,
             script,
@@ -127,7 +127,7 @@ impl Timers {
     }
 
     /// The timer or idle script that is listed under a number. It takes no memory.
-    pub fn entry(&self, owner: usize, id: u64) -> Option<&Entry>
+    pub fn entry(&self, owner: usize, id: u64) -> Option<&WaitingScript>
         ensures { option_copied result ≡ entry_with id (entries_of owner self.now) }
     {
         let due = self.index.due_of(owner, id)?;
@@ -197,7 +197,7 @@ impl Timers {
     }
 
     /// What is listed under a name.
-    pub(crate) fn entry_named(&self, owner: usize, text: &str) -> Option<&Entry>
+    pub(crate) fn entry_named(&self, owner: usize, text: &str) -> Option<&WaitingScript>
         ensures { option_copied result ≡ entry_named text.now (entries_of owner self.now) }
     {
         let id = self.index.named(owner, text)?;
@@ -205,7 +205,7 @@ impl Timers {
     }
 
     /// The first that is listed with a script.
-    fn entry_running(&self, owner: usize, script: &str) -> Option<&Entry>
+    fn entry_running(&self, owner: usize, script: &str) -> Option<&WaitingScript>
         ensures { option_copied result
             ≡ find (λ entry. bytes_eq entry.script script.now) (entries_of owner self.now) }
     {
@@ -247,7 +247,8 @@ impl Timers {
         ensures err { OnErr result (self.new ≡ self.old) }
     {
         let id = counter_of(&self.counters, owner).next;
-        self.scripts.insert(owner, Entry { id, due, script })?;
+        self.scripts
+            .insert(owner, WaitingScript { id, due, script })?;
         match list_number(&mut self.index, &mut self.counters, owner, due) {
             Ok(()) => Ok(id),
             Err(refused) => {
@@ -297,7 +298,7 @@ fn entry_with_script<'a>(
     index: &TimerIndex,
     owner: usize,
     script: &str,
-) -> Option<&'a Entry>
+) -> Option<&'a WaitingScript>
     requires rising { IsRising number_of (entries_in owner scripts.now) }
     requires listed { marks_of owner index.now ≡ map mark_of (entries_in owner scripts.now) }
     ensures { option_copied result

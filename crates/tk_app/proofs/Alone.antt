@@ -5,7 +5,7 @@ use Rattle.std.proofs.lemmas.Bool.{leb-true, leb-false, eqb-true, eqb-false}
 use Rattle.tk_app.specs.declared.turns.Turn.{Turn}
 use Rattle.tk_app.specs.Rounds.{turns_of}
 use Rattle.tk_app.specs.Passing.{brought}
-use Rattle.tk_app.specs.Stages.{IsPast, earlier, first_due, settled_if, settled_at, stage_at, used_at}
+use Rattle.tk_app.specs.Stages.{IsPast, earlier, first_moment_due, settled_if, settled_if_due_at, stage_at, used_at}
 use Rattle.tk_app.specs.Together.{IsAmong, IsOwnOfOne, RisesFrom, Rises, before, own_moments, stage_moments, taken_at, turns_to}
 use Rattle.tk_app.proofs.Passing.{pass_none, pass_late, pass_step, brought_step}
 use Rattle.tk_app.proofs.Stages.{IsFrom, brought_at, brought_past, both_from, both_past, stage_lighter, stage_past, told_past, told_step}
@@ -25,7 +25,7 @@ module _ {P : Type 0} (next_due : P → Option ℕ) (settled : ℕ → P → P) 
   at moment parts = stage_at next_due settled moment parts
 
   abbrev first : List P → Option ℕ
-  first parts = first_due next_due settled parts
+  first parts = first_moment_due next_due settled parts
 
   abbrev moments : ℕ → List P → List ℕ
   moments last parts = stage_moments next_due settled weight last parts
@@ -37,16 +37,16 @@ module _ {P : Type 0} (next_due : P → Option ℕ) (settled : ℕ → P → P) 
 
   moments_step : (last due : ℕ) (parts : List P) → first parts ≡ Some due → due ≤ last → moments last parts ≡ due ∷ moments last (at due parts)
   moments_step last due parts next in_time =
-      pass_step (first_due next_due settled) (stage_at next_due settled) (λ due there later. due ∷ later) (λ there. []) (sum_by weight) (stage_lighter next_due settled weight lighter) last due parts next in_time
+      pass_step (first_moment_due next_due settled) (stage_at next_due settled) (λ due there later. due ∷ later) (λ there. []) (sum_by weight) (stage_lighter next_due settled weight lighter) last due parts next in_time
 
   moments_past : (last : ℕ) (parts : List P) → IsPast last (first parts) → moments last parts ≡ []
   moments_past last parts past = by (first parts) refl past
     where
       by : (o : Option ℕ) → first parts ≡ o → IsPast last o → moments last parts ≡ []
       by None next past =
-          pass_none (first_due next_due settled) (stage_at next_due settled) (λ due there later. due ∷ later) (λ there. []) (sum_by weight) (stage_lighter next_due settled weight lighter) last (sum_by weight parts) parts next
+          pass_none (first_moment_due next_due settled) (stage_at next_due settled) (λ due there later. due ∷ later) (λ there. []) (sum_by weight) (stage_lighter next_due settled weight lighter) last (sum_by weight parts) parts next
       by (Some due) next late =
-          pass_late (first_due next_due settled) (stage_at next_due settled) (λ due there later. due ∷ later) (λ there. []) (sum_by weight) (stage_lighter next_due settled weight lighter) last (sum_by weight parts) due parts next late
+          pass_late (first_moment_due next_due settled) (stage_at next_due settled) (λ due there later. due ∷ later) (λ there. []) (sum_by weight) (stage_lighter next_due settled weight lighter) last (sum_by weight parts) due parts next late
 
   -- ── they rise ──
 
@@ -122,7 +122,7 @@ module _ {P : Type 0} (next_due : P → Option ℕ) (settled : ℕ → P → P) 
       by (Some x) (Some y) m n later is = by_least x y (nat_le x y) refl m n later (let same : min x y ≡ due = cc in same)
 
   -- a moment of a part is the one of the stage, or is its own after it
-  one_on : (last due m : ℕ) (p : P) → due ≤ last → IsAmong m (own last p) → (due ≡ m) ⊎ IsAmong m (own last (settled_at next_due settled due p))
+  one_on : (last due m : ℕ) (p : P) → due ≤ last → IsAmong m (own last p) → (due ≡ m) ⊎ IsAmong m (own last (settled_if_due_at next_due settled due p))
   one_on last due m p in_time is = by (next_due p) refl
     where
       by_test : (d : ℕ) (b : Bool) → next_due p ≡ Some d → nat_eq d due ≡ b → (due ≡ m) ⊎ IsAmong m (own last (if b then settled due p else p))
@@ -133,7 +133,7 @@ module _ {P : Type 0} (next_due : P → Option ℕ) (settled : ℕ → P → P) 
       by None next = inr is
       by (Some d) next = by_test d (nat_eq d due) next refl
 
-  one_back : (last due m : ℕ) (p : P) → due ≤ last → IsAmong m (own last (settled_at next_due settled due p)) → IsAmong m (own last p)
+  one_back : (last due m : ℕ) (p : P) → due ≤ last → IsAmong m (own last (settled_if_due_at next_due settled due p)) → IsAmong m (own last p)
   one_back last due m p in_time = by (next_due p) refl
     where
       by_test : (d : ℕ) (b : Bool) → next_due p ≡ Some d → nat_eq d due ≡ b → IsAmong m (own last (if b then settled due p else p)) → IsAmong m (own last p)
@@ -212,7 +212,7 @@ module _ {P : Type 0} (next_due : P → Option ℕ) (settled : ℕ → P → P) 
         by None from = tt
         by (Some due) from = omega (arith, from)
 
-    to_first : (due : ℕ) (p : P) → IsFrom due (next_due p) → to due p ≡ settled_at next_due settled due p
+    to_first : (due : ℕ) (p : P) → IsFrom due (next_due p) → to due p ≡ settled_if_due_at next_due settled due p
     to_first due p from = by (next_due p) refl from
       where
         by_test : (d : ℕ) (b : Bool) → next_due p ≡ Some d → nat_eq d due ≡ b → due ≤ d → to due p ≡ (if b then settled due p else p)
@@ -230,11 +230,11 @@ module _ {P : Type 0} (next_due : P → Option ℕ) (settled : ℕ → P → P) 
     taken_first due (p ∷ ps) from =
         let both = both_from due (next_due p) (first ps) from in
         let here : used_at next_due settled steps_left due p ≡ taken due p =
-        ap (λ q. steps_left q - steps_left (settled_at next_due settled due p)) (sym (before_first due p both.0))
+        ap (λ q. steps_left q - steps_left (settled_if_due_at next_due settled due p)) (sym (before_first due p both.0))
         ∙ ap (λ q. steps_left (before next_due settled weight due p) - steps_left q) (sym (to_first due p both.0)) in
         ap (λ n. n ∷ map (used_at next_due settled steps_left due) ps) here ∙ ap (λ ns. taken due p ∷ ns) (taken_first due ps both.1)
 
-    before_after : (due moment : ℕ) (p : P) → due < moment → before next_due settled weight moment (settled_at next_due settled due p) ≡ before next_due settled weight moment p
+    before_after : (due moment : ℕ) (p : P) → due < moment → before next_due settled weight moment (settled_if_due_at next_due settled due p) ≡ before next_due settled weight moment p
     before_after due zero p lt = absurd (omega (arith, lt))
     before_after due (suc moment) p lt = brought_at next_due settled weight lighter moment due p (omega (arith, lt))
 
@@ -242,7 +242,7 @@ module _ {P : Type 0} (next_due : P → Option ℕ) (settled : ℕ → P → P) 
     taken_later : (due moment : ℕ) (parts : List P) → due < moment → map (taken moment) (at due parts) ≡ map (taken moment) parts
     taken_later due moment [] lt = refl
     taken_later due moment (p ∷ ps) lt =
-        let there : P = settled_at next_due settled due p in
+        let there : P = settled_if_due_at next_due settled due p in
         let here : taken moment there ≡ taken moment p =
         ap (λ q. steps_left q - steps_left (to moment there)) (before_after due moment p lt)
         ∙ ap (λ q. steps_left (before next_due settled weight moment p) - steps_left q) (brought_at next_due settled weight lighter moment due p (omega (arith, lt))) in

@@ -38,14 +38,14 @@ use Rattle.tk_commands.specs.Commands.{command_done, command_named, done_by, pan
 use Rattle.tk_commands.specs.Course.{event_job, looked_of}
 use Rattle.tk_commands.specs.declared.outcome.CommandOutcome.TheVariants.{Acts, Begins}
 use Rattle.tk_commands.specs.declared.commands.TkCommand.TheVariants.{Class}
-use Rattle.tk_commands.specs.Dispatch.{arrived, dispatched_if, generate_told, generated_told, selection_of}
+use Rattle.tk_commands.specs.Dispatch.{generated_by_when, dispatched_if, generate_told, generated_told, selection_of}
 use Rattle.tk_commands.specs.Moment.{destroying, moment_command_done, moment_command_named, settling as settling_to, update_words}
 use Rattle.tk_commands.specs.Outcomes.{Done, done, with_store}
 use Rattle.tk_commands.specs.Path.{path_told}
 use Rattle.tk_commands.specs.Screen.{screen_command_named}
 use Rattle.tk_window_commands.specs.Commands.{window_command_named}
 use Rattle.tk_app.specs.Begun.{DestroyBegins, GenerateBegins, IdleTasksAre, InvokeRuns, IsNoAlias, SelectBegins, UpdateBegins, UpdateIs, command_meaning, ends_there, shown_with}
-use Rattle.tk_app.specs.Dispatch.{global_meaning, shown}
+use Rattle.tk_app.specs.Dispatch.{global_meaning, with_shown}
 use Rattle.tk_app.specs.Jobs.{meaning}
 use Rattle.tk_app.specs.Outside.{act_of as alias_answer, by_panel, called_as, outside}
 use Rattle.tk_app.specs.Seen.{Seen}
@@ -54,22 +54,22 @@ use Rattle.tk_app.proofs.Only.{only_update}
 use Rattle.tk_app.proofs.Panels.{chosen_moment}
 use Rattle.tk_app.proofs.Parts.{goes_by_next}
 
-module _ (room : ℕ) (name : List ℕ) where
+module _ (room : ℕ) (called name : List ℕ) where
   -- what comes next is told under any name
   same_name : (found : Option Job) (state : State Seen)
-      → act_meaning outside (script_meaning outside room) name state (act_of (looked_of found)) ≡ act_meaning outside (script_meaning outside room) [] state (act_of (looked_of found))
+      → act_meaning outside (script_meaning outside room) called state (act_of (looked_of found)) ≡ act_meaning outside (script_meaning outside room) [] state (act_of (looked_of found))
   same_name None state = refl
   same_name (Some job) state = refl
 
   -- a command that begins a job
   began : (words : List (List ℕ)) (state : State Seen) (panel : Panel) (store : Store) (job : Job) → IsNoAlias name state
       → panel_command (name ∷ words) state.shows.panel state.store ≡ done panel store (Begins job) → panel.moment ≡ state.shows.panel.moment
-      → command_meaning room name words state ≡ meaning room job (shown_with panel store state)
+      → command_meaning room called name words state ≡ meaning room job (shown_with panel store state)
   unfolding panel_calls
   began words state panel store job none is same =
       let seen : Seen = state.shows in
       let run = script_meaning outside room in
-      let by_told = λ (told : Told Seen (Task Job)). act_meaning outside run name (told_state told state) told.act in
+      let by_told = λ (told : Told Seen (Task Job)). act_meaning outside run called (told_state told state) told.act in
       let by_came = λ (came : Done). by_told (by_panel seen (outcome_told came.outcome came.panel came.store)) in
       let there : Next = next job store panel in
       ap (λ served. by_told (called_as (option_map (λ meaning. alias_answer (meaning words)) served) (name ∷ words) seen state.store)) none
@@ -93,12 +93,12 @@ module _ (room : ℕ) (name : List ℕ) where
   -- a command that comes to a script
   runs : (words : List (List ℕ)) (script : List ℕ) (panel : Panel) (store : Store) (state : State Seen) → IsNoAlias name state
       → panel_command (name ∷ words) state.shows.panel state.store ≡ done panel store (Acts (Script script)) → panel.moment ≡ state.shows.panel.moment
-      → command_meaning room name words state ≡ and_then (global_meaning room script (shown_with panel store state)) (λ left code text. ends_global left (out_of_global code) text)
+      → command_meaning room called name words state ≡ and_then (global_meaning room script (shown_with panel store state)) (λ left code text. ends_global left (out_of_global code) text)
   unfolding panel_calls
   runs words script panel store state none is same =
       let seen : Seen = state.shows in
       let run = script_meaning outside room in
-      let by_told = λ (told : Told Seen (Task Job)). act_meaning outside run name (told_state told state) told.act in
+      let by_told = λ (told : Told Seen (Task Job)). act_meaning outside run called (told_state told state) told.act in
       let by_came = λ (came : Done). by_told (by_panel seen (outcome_told came.outcome came.panel came.store)) in
       ap (λ served. by_told (called_as (option_map (λ meaning. alias_answer (meaning words)) served) (name ∷ words) seen state.store)) none
       ∙ ap by_came is
@@ -107,31 +107,31 @@ module _ (room : ℕ) (name : List ℕ) where
 
 pub update_begins : UpdateBegins
 unfolding command_named command_done moment_command_done moment_command_named update_words screen_command_named window_command_named
-update_begins room state none = (
-  began room (codes "update") [] state state.shows.panel state.store (settling_to Update) none refl refl,
-  began room (codes "update") (codes "idletasks" ∷ []) state state.shows.panel state.store (settling_to IdleTasks) none refl refl,
+update_begins room called state none = (
+  began room called (codes "update") [] state state.shows.panel state.store (settling_to Update) none refl refl,
+  began room called (codes "update") (codes "idletasks" ∷ []) state state.shows.panel state.store (settling_to IdleTasks) none refl refl,
 )
 
 pub update_is : UpdateIs
-update_is room update meets state none sound = (update_begins room state none).0 ∙ sym (only_update room update meets state sound)
+update_is room update meets called state none sound = (update_begins room called state none).0 ∙ sym (only_update room update meets state sound)
 
 pub idle_tasks_are : IdleTasksAre
-idle_tasks_are room state none = (update_begins room state none).1 ∙ updates_idle room state
+idle_tasks_are room called state none = (update_begins room called state none).1 ∙ updates_idle room state
 
 pub invoke_runs : InvokeRuns
-invoke_runs room name words script panel store state none is same = runs room name words script panel store state none is same
+invoke_runs room called name words script panel store state none is same = runs room called name words script panel store state none is same
 
 pub destroy_begins : DestroyBegins
 unfolding command_named command_done moment_command_done moment_command_named screen_command_named window_command_named
-destroy_begins room paths state none =
-    began room (codes "destroy") paths state state.shows.panel state.store (destroying paths) none refl refl ∙ destroys_all room paths state
+destroy_begins room called paths state none =
+    began room called (codes "destroy") paths state state.shows.panel state.store (destroying paths) none refl refl ∙ destroys_all room paths state
 
 -- the job of an event's scripts, with nothing behind it
 ends_without_event : (room : ℕ) (state : State Seen) → meaning room (without_event NoRest) state ≡ ends_there state
 ends_without_event room state = goes_by_next room (without_event NoRest) state
 
 module _ (words : List (List ℕ)) (panel : Panel) (store : Store) (generated : Generated)
-    (is : generate_words words panel.input.focus (length panel.queue) panel.moment panel.screen.tree ≡ Ok generated) (now : generated.when ≡ Now) where
+    (is : generate_words words panel.input.focus (length panel.queue) panel.moment panel.windowing.tree ≡ Ok generated) (now : generated.when ≡ Now) where
   abbrev there : Panel × List (List ℕ)
   there = chosen generated.event panel
 
@@ -139,22 +139,22 @@ module _ (words : List (List ℕ)) (panel : Panel) (store : Store) (generated : 
   unfolding command_named command_done binding_command_done binding_command_named event_told generate_told moment_command_named screen_command_named window_command_named
   generates =
       ap (λ given. with_store store (generated_told given panel)) is
-      ∙ ap (λ when. with_store store (arrived when generated.event panel)) now
+      ∙ ap (λ when. with_store store (generated_by_when when generated.event panel)) now
 
 pub generate_begins : GenerateBegins
-generate_begins room words generated state none is now =
+generate_begins room called words generated state none is now =
     let panel : Panel = state.shows.panel in
     let there : Panel × List (List ℕ) = chosen generated.event panel in
-    began room (codes "event") (codes "generate" ∷ words) state there.0 state.store (event_job there.1 NoRest) none (generates words panel state.store generated is now) (chosen_moment generated.event panel)
+    began room called (codes "event") (codes "generate" ∷ words) state there.0 state.store (event_job there.1 NoRest) none (generates words panel state.store generated is now) (chosen_moment generated.event panel)
     ∙ dispatches room generated.event NoRest state
-    ∙ bound_same room there.1 (meaning room (without_event NoRest)) ends_there (ends_without_event room) (shown there.0 state)
+    ∙ bound_same room there.1 (meaning room (without_event NoRest)) ends_there (ends_without_event room) (with_shown there.0 state)
 
 -- ── a selection ──
 
 module _ (name : List ℕ) (command : ClassCommand) (words : List (List ℕ)) (number : ℕ) (window : Window) (panel : Panel) (store : Store)
     (plain : begins_path name ≡ false) (named : command_named name ≡ Some (Class command))
     (selects : (class_command command words panel store).outcome ≡ Selects number)
-    (is_there : window_at number (class_command command words panel store).panel.screen.tree ≡ Some window) where
+    (is_there : window_at number (class_command command words panel store).panel.windowing.tree ≡ Some window) where
   abbrev came : ClassDone
   came = class_command command words panel store
 
@@ -170,11 +170,11 @@ module _ (name : List ℕ) (command : ClassCommand) (words : List (List ℕ)) (n
       ∙ ap (λ found. with_store came.store (dispatched_if (selection_of panel.moment found) came.panel)) is_there
 
 pub select_begins : SelectBegins
-select_begins room name command words number window state none plain named selects is_there =
+select_begins room called name command words number window state none plain named selects is_there =
     let panel : Panel = state.shows.panel in
     let came : ClassDone = class_command command words panel state.store in
     let event : Event = bare_event (Virtual (codes "ListboxSelect")) window.number window.path panel.moment in
     let there : Panel × List (List ℕ) = chosen event came.panel in
-    began room name words state there.0 came.store (event_job there.1 NoRest) none (selection name command words number window panel state.store plain named selects is_there) (chosen_moment event came.panel)
+    began room called name words state there.0 came.store (event_job there.1 NoRest) none (selection name command words number window panel state.store plain named selects is_there) (chosen_moment event came.panel)
     ∙ dispatches room event NoRest (shown_with came.panel came.store state)
     ∙ bound_same room there.1 (meaning room (without_event NoRest)) ends_there (ends_without_event room) (shown_with there.0 came.store state)

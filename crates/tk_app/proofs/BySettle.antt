@@ -3,7 +3,7 @@ use Rattle.std.proofs.Common.{◌≡◌, ℕ, List, refl, sym, ap, subst}
 use Rattle.tcl_control.specs.declared.code.Code.{Code}
 use Rattle.tcl_interp.specs.Evaluation.{State, Outcome, Ended, OutOfSteps, and_then}
 use Rattle.tcl_interp.specs.Scripts.{out_of_global}
-use Rattle.tk_screen.specs.Own.{Own as Screen}
+use Rattle.tk_screen.specs.Own.{Windowing}
 use Rattle.tk_tree.specs.Own.{IsSound}
 use Rattle.tk_commands.specs.Course.{with_end}
 use Rattle.tk_app.specs.declared.state.AppState.{AppState}
@@ -33,10 +33,10 @@ module _ (settle : Continuation) (meets : IsSettle settle) where
       then_same (global_meaning 200 script state) (after_script settle_meaning) (after_script settle) ((keeps_sound 200 state sound).0 script)
       (λ left code text kept.
       same (in_panel (with_end (out_of_global code) text left.shows.panel) left)
-      (subst (λ (screen : Screen). IsSound screen.tree) (sym (end_screen (out_of_global code) text left.shows.panel)) kept))
+      (subst (λ (windowing : Windowing). IsSound windowing.tree) (sym (end_screen (out_of_global code) text left.shows.panel)) kept))
 
   module _ {M : Type 0} (answer : M → Meaning) where
-    started_same : (moment : ℕ) (script : List ℕ) (application : Application M) → IsSound application.screen.tree
+    started_same : (moment : ℕ) (script : List ℕ) (application : Application M) → IsSound application.windowing.tree
         → started answer moment script application ≡ started_by answer settle moment script application
     unfolding started_by
     started_same moment script application sound = ap (λ o. after_outcome o application) (start_same script (state_at answer moment application) sound)

@@ -35,7 +35,7 @@ use Rattle.tk_generate.specs.declared.given.When.TheVariants.{Now, Tail, Head}
 use Rattle.tk_generate.specs.Generate.{generate_words}
 use Rattle.tk_inputs.specs.declared.inputs.Input.{Input}
 use Rattle.tk_inputs.specs.Deliver.{Arrivals}
-use Rattle.tk_listbox.specs.declared.choice.Choice.{Choice}
+use Rattle.tk_widgets.specs.declared.choice.Choice.{Choice}
 use Rattle.tk_options.specs.declared.settings.Setting.{Setting}
 use Rattle.tk_options.specs.Options.{settings}
 use Rattle.tk_options.specs.Rows.{options_of}
@@ -44,7 +44,7 @@ use Rattle.tk_panel.specs.Choice.{chosen}
 use Rattle.tk_panel.specs.Commands.{put_to, puts_words}
 use Rattle.tk_panel.specs.Panel.{Panel}
 use Rattle.tk_screen.specs.Changes.{changed, changed_after, wrote}
-use Rattle.tk_screen.specs.Own.{Own as Screen}
+use Rattle.tk_screen.specs.Own.{Windowing}
 use Rattle.tk_screen.specs.Shapes.{variable_text}
 use Rattle.tk_screen.specs.Widgets.{widget_at}
 use Rattle.tk_sequences.specs.declared.event.Event.{Event}
@@ -53,7 +53,7 @@ use Rattle.tk_tree.specs.Create.{refusal}
 use Rattle.tk_tree.specs.declared.fault.WindowFault.{WindowFault}
 use Rattle.tk_tree.specs.declared.fault.WindowFault.TheVariants.{BadPath}
 use Rattle.tk_tree.specs.declared.window.Window.{Window}
-use Rattle.tk_tree.specs.Own.{Own as Tree, at_path, window_at}
+use Rattle.tk_tree.specs.Own.{Tree, at_path, window_at}
 use Rattle.tk_widgets.specs.Commands.{edit_asked, variable_write, wanted}
 use Rattle.tk_widgets.specs.declared.entry_commands.EntryEdit.{EntryEdit}
 use Rattle.tk_widgets.specs.declared.outcome.WidgetChange.{WidgetChange}
@@ -80,7 +80,7 @@ use Rattle.tk_commands.specs.declared.moment.MomentCommand.{MomentCommand}
 use Rattle.tk_commands.specs.declared.moment.MomentCommand.TheVariants as moment_command
 use Rattle.tk_commands.specs.declared.screen.ScreenCommand.{ScreenCommand}
 use Rattle.tk_commands.specs.declared.screen.ScreenCommand.TheVariants.{Window as OnWindow, Pack}
-use Rattle.tk_commands.specs.Dispatch.{arrived, dispatched_if, generate_told, generated_told, selection_of, selection_told}
+use Rattle.tk_commands.specs.Dispatch.{generated_by_when, dispatched_if, generate_told, generated_told, selection_of, selection_told}
 use Rattle.tk_commands.specs.Moment.{moment_command_done}
 use Rattle.tk_commands.specs.Path.{path_told}
 use Rattle.tk_commands.specs.Screen.{screen_command_done}
@@ -90,7 +90,7 @@ use Rattle.tk_app.proofs.Trees.{Acts, HoldsOfActs, by_screen}
 -- ── what leaves the windows ──
 
 -- a change of a widget
-changed_tree : (number : ℕ) (change : WidgetChange) (own : Screen) (store : Store) → (changed number change own store).own.tree ≡ own.tree
+changed_tree : (number : ℕ) (change : WidgetChange) (own : Windowing) (store : Store) → (changed number change own store).own.tree ≡ own.tree
 unfolding changed
 changed_tree number change own store = by (widget_at number own.widgets) refl
   where
@@ -103,18 +103,18 @@ changed_tree number change own store = by (widget_at number own.widgets) refl
     by (Some widget) is = rw is (written (wrote (variable_write change widget) store))
 
 -- a window's own command
-request_tree : (number : ℕ) (request : WidgetRequest) (own : Screen) (store : Store) → (asked_of number request own store).own.tree ≡ own.tree
+request_tree : (number : ℕ) (request : WidgetRequest) (own : Windowing) (store : Store) → (asked_of number request own store).own.tree ≡ own.tree
 request_tree number (Told act) own store = refl
 request_tree number (Wants change) own store = changed_tree number change own store
 
-widget_tree : (number : ℕ) (words : List (List ℕ)) (own : Screen) (store : Store) → (widget_words number words own store).own.tree ≡ own.tree
+widget_tree : (number : ℕ) (words : List (List ℕ)) (own : Windowing) (store : Store) → (widget_words number words own store).own.tree ≡ own.tree
 widget_tree number words own store = by (widget_at number own.widgets) refl
   where
     by : (widget : Option Widget) → widget_at number own.widgets ≡ widget → (widget_words number words own store).own.tree ≡ own.tree
     by None is = rw is refl
     by (Some widget) is = rw is (request_tree number (asked_by (wanted words (variable_text widget store) widget)) own store)
 
-path_tree : (path : List ℕ) (words : List (List ℕ)) (own : Screen) (store : Store) → (path_words path words own store).own.tree ≡ own.tree
+path_tree : (path : List ℕ) (words : List (List ℕ)) (own : Windowing) (store : Store) → (path_words path words own store).own.tree ≡ own.tree
 unfolding path_words
 path_tree path words own store = by (at_path path own.tree) refl
   where
@@ -123,32 +123,32 @@ path_tree path words own store = by (at_path path own.tree) refl
     by (Some window) is = rw is (widget_tree window.number words own store)
 
 -- `puts`
-puts_screen : (words : List (List ℕ)) (panel : Panel) → (puts_words words panel).0.screen ≡ panel.screen
+puts_screen : (words : List (List ℕ)) (panel : Panel) → (puts_words words panel).0.windowing ≡ panel.windowing
 unfolding puts_words
 puts_screen [] panel = refl
 puts_screen (text ∷ []) panel = refl
 puts_screen (channel ∷ text ∷ []) panel = by (bytes_eq channel (codes "stdout")) refl
   where
-    by : (b : Bool) → bytes_eq channel (codes "stdout") ≡ b → (put_to channel text panel).0.screen ≡ panel.screen
+    by : (b : Bool) → bytes_eq channel (codes "stdout") ≡ b → (put_to channel text panel).0.windowing ≡ panel.windowing
     by true is = rw is refl
     by false is = rw is refl
 puts_screen (channel ∷ text ∷ word ∷ words) panel = refl
 
 -- `wm`
-title_tree : (path title : List ℕ) (own : Screen) → (title_set path title own).own.tree ≡ own.tree
+title_tree : (path title : List ℕ) (own : Windowing) → (title_set path title own).own.tree ≡ own.tree
 title_tree path title own = by (is_main path own) refl
   where
     by : (b : Bool) → is_main path own ≡ b → (title_set path title own).own.tree ≡ own.tree
     by true is = rw is refl
     by false is = rw is refl
 
-titles_tree : (words : List (List ℕ)) (own : Screen) → (title_words words own).own.tree ≡ own.tree
+titles_tree : (words : List (List ℕ)) (own : Windowing) → (title_words words own).own.tree ≡ own.tree
 titles_tree [] own = refl
 titles_tree (path ∷ []) own = refl
 titles_tree (path ∷ title ∷ []) own = title_tree path title own
 titles_tree (path ∷ title ∷ word ∷ words) own = refl
 
-wm_tree : (words : List (List ℕ)) (own : Screen) → (wm_words words own).own.tree ≡ own.tree
+wm_tree : (words : List (List ℕ)) (own : Windowing) → (wm_words words own).own.tree ≡ own.tree
 unfolding wm_words
 wm_tree [] own = refl
 wm_tree (name ∷ words) own = by (bytes_eq name (codes "title")) refl
@@ -159,26 +159,26 @@ wm_tree (name ∷ words) own = by (bytes_eq name (codes "title")) refl
 
 -- ── what the pointer and keys do to widgets ──
 
-relief_tree : (number : ℕ) (relief : List ℕ) (own : Screen) → (with_relief number relief own).tree ≡ own.tree
+relief_tree : (number : ℕ) (relief : List ℕ) (own : Windowing) → (with_relief number relief own).tree ≡ own.tree
 relief_tree number relief own = by (option_and_then (relief_settings relief) (widget_at number own.widgets))
   where
     by : (all : Option (List Setting)) → (option_map_or (λ all. with_change number (Configure all) own) all own).tree ≡ own.tree
     by None = refl
     by (Some all) = refl
 
-restored_tree : (number : ℕ) (relief : Option (List ℕ)) (own : Screen) → (restored number relief own).tree ≡ own.tree
+restored_tree : (number : ℕ) (relief : Option (List ℕ)) (own : Windowing) → (restored number relief own).tree ≡ own.tree
 restored_tree number None own = refl
 restored_tree number (Some relief) own = relief_tree number relief own
 
-either_tree : (b : Bool) (new own : Screen) → new.tree ≡ own.tree → (cond b new own).tree ≡ own.tree
+either_tree : (b : Bool) (new own : Windowing) → new.tree ≡ own.tree → (cond b new own).tree ≡ own.tree
 either_tree true new own same = same
 either_tree false new own same = refl
 
-press_tree : (number : ℕ) (own : Screen) (input : Input) (relief : Option (List ℕ)) → (pressed_with number own input relief).own.tree ≡ own.tree
+press_tree : (number : ℕ) (own : Windowing) (input : Input) (relief : Option (List ℕ)) → (pressed_with number own input relief).own.tree ≡ own.tree
 press_tree number own input None = refl
 press_tree number own input (Some relief) = relief_tree number (codes "sunken") own
 
-release_tree : (number : ℕ) (own : Screen) (input : Input) → (let_go number own input).own.tree ≡ own.tree
+release_tree : (number : ℕ) (own : Windowing) (input : Input) → (let_go number own input).own.tree ≡ own.tree
 release_tree number own input = by (is_it number input.pressed)
   where
     by : (b : Bool)
@@ -187,7 +187,7 @@ release_tree number own input = by (is_it number input.pressed)
     by true = restored_tree number input.relief own
     by false = refl
 
-button_tree : (request : ButtonRequest) (number : ℕ) (own : Screen) (input : Input) → (act request number own input).own.tree ≡ own.tree
+button_tree : (request : ButtonRequest) (number : ℕ) (own : Windowing) (input : Input) → (act request number own input).own.tree ≡ own.tree
 unfolding act
 button_tree Enter number own input = either_tree (is_it number input.pressed) (with_relief number (codes "sunken") own) own (relief_tree number (codes "sunken") own)
 button_tree Leave number own input = either_tree (is_it number input.pressed) (restored number input.relief own) own (restored_tree number input.relief own)
@@ -195,7 +195,7 @@ button_tree Press number own input = press_tree number own input (relief_to_keep
 button_tree Release number own input = release_tree number own input
 button_tree Invoke number own input = refl
 
-edit_tree : (number : ℕ) (key : EntryEdit) (own : Screen) (store : Store) → (edited number key own store).own.tree ≡ own.tree
+edit_tree : (number : ℕ) (key : EntryEdit) (own : Windowing) (store : Store) → (edited number key own store).own.tree ≡ own.tree
 edit_tree number key own store = by (widget_at number own.widgets) refl
   where
     request : (asked : WidgetRequest) → (edited_as number own store asked).own.tree ≡ own.tree
@@ -206,14 +206,14 @@ edit_tree number key own store = by (widget_at number own.widgets) refl
     by None is = rw is refl
     by (Some widget) is = rw is (request (asked_by (edit_asked key (variable_text widget store) widget)))
 
-cursor_tree : (number : ℕ) (how : CursorMove) (own : Screen) (store : Store) → (moved_at number how own store).tree ≡ own.tree
+cursor_tree : (number : ℕ) (how : CursorMove) (own : Windowing) (store : Store) → (moved_at number how own store).tree ≡ own.tree
 cursor_tree number how own store = placed (option_and_then (place_of how store) (widget_at number own.widgets))
   where
     placed : (at : Option ℕ) → (with_cursor number at own).tree ≡ own.tree
     placed None = refl
     placed (Some at) = refl
 
-entry_tree : (number moment : ℕ) (request : EntryRequest) (own : Screen) (arrivals : Arrivals) (store : Store) → (entry_asked number moment request own arrivals store).own.tree ≡ own.tree
+entry_tree : (number moment : ℕ) (request : EntryRequest) (own : Windowing) (arrivals : Arrivals) (store : Store) → (entry_asked number moment request own arrivals store).own.tree ≡ own.tree
 entry_tree number moment (entry_request.Edit key) own arrivals store = edit_tree number key own store
 entry_tree number moment (entry_request.Move way) own arrivals store = cursor_tree number (By way) own store
 entry_tree number moment (entry_request.Point x) own arrivals store = by (is_disabled_at number own) refl
@@ -222,14 +222,14 @@ entry_tree number moment (entry_request.Point x) own arrivals store = by (is_dis
     by true is = rw is refl
     by false is = rw is (cursor_tree number (To x) own store)
 
-effect_tree : (number : ℕ) (effect : Effect) (own : Screen) → (with_effect number effect own).tree ≡ own.tree
+effect_tree : (number : ℕ) (effect : Effect) (own : Windowing) → (with_effect number effect own).tree ≡ own.tree
 effect_tree number effect own = by effect.choice
   where
     by : (choice : Option Choice) → (with_effect number (record effect { choice = choice }) own).tree ≡ own.tree
     by None = refl
     by (Some choice) = refl
 
-listbox_tree : (number moment : ℕ) (request : ListboxRequest) (own : Screen) (arrivals : Arrivals) → (listbox_asked number moment request own arrivals).own.tree ≡ own.tree
+listbox_tree : (number moment : ℕ) (request : ListboxRequest) (own : Windowing) (arrivals : Arrivals) → (listbox_asked number moment request own arrivals).own.tree ≡ own.tree
 unfolding listbox_asked
 listbox_tree number moment request own arrivals = by (effect_at number request own)
   where
@@ -237,7 +237,7 @@ listbox_tree number moment request own arrivals = by (effect_at number request o
     by None = refl
     by (Some effect) = effect_tree number effect own
 
-class_tree : (command : ClassCommand) (words : List (List ℕ)) (moment : ℕ) (own : Screen) (arrivals : Arrivals) (store : Store)
+class_tree : (command : ClassCommand) (words : List (List ℕ)) (moment : ℕ) (own : Windowing) (arrivals : Arrivals) (store : Store)
     → (class_command_done command words moment own arrivals store).own.tree ≡ own.tree
 unfolding class_command_done
 class_tree command words moment own arrivals store = by (target_in command words own)
@@ -263,10 +263,10 @@ module _ (Q : Tree → Tree → Type 0) (acts : HoldsOfActs Q) where
   moment_does : (command : MomentCommand) (words : List (List ℕ)) (panel : Panel) → Does panel (moment_command_done command words panel).panel
   unfolding moment_command_done
   moment_does moment_command.Puts words panel = by_screen Q acts panel (puts_words words panel).0 (puts_screen words panel)
-  moment_does moment_command.After words panel = acts.same panel.screen.tree
-  moment_does moment_command.Clock words panel = acts.same panel.screen.tree
-  moment_does moment_command.Update words panel = acts.same panel.screen.tree
-  moment_does moment_command.Destroy words panel = acts.same panel.screen.tree
+  moment_does moment_command.After words panel = acts.same panel.windowing.tree
+  moment_does moment_command.Clock words panel = acts.same panel.windowing.tree
+  moment_does moment_command.Update words panel = acts.same panel.windowing.tree
+  moment_does moment_command.Destroy words panel = acts.same panel.windowing.tree
 
   -- ── `bind`, `bindtags`, `event`, `focus` ──
 
@@ -290,32 +290,32 @@ module _ (Q : Tree → Tree → Type 0) (acts : HoldsOfActs Q) where
 
   generate_does : (words : List (List ℕ)) (panel : Panel) → Does panel (generate_told words panel).panel
   unfolding generate_told
-  generate_does words panel = by (generate_words words panel.input.focus (length panel.queue) panel.moment panel.screen.tree)
+  generate_does words panel = by (generate_words words panel.input.focus (length panel.queue) panel.moment panel.windowing.tree)
     where
-      arrives : (when : When) (event : Event) → Does panel (arrived when event panel).panel
+      arrives : (when : When) (event : Event) → Does panel (generated_by_when when event panel).panel
       arrives Now event = chosen_does event panel
-      arrives Tail event = acts.same panel.screen.tree
-      arrives Head event = acts.same panel.screen.tree
+      arrives Tail event = acts.same panel.windowing.tree
+      arrives Head event = acts.same panel.windowing.tree
 
       by : (generated : Result Generated (List ℕ)) → Does panel (generated_told generated panel).panel
       by (Ok generated) = arrives generated.when generated.event
-      by (Err text) = acts.same panel.screen.tree
+      by (Err text) = acts.same panel.windowing.tree
 
   event_does : (words : List (List ℕ)) (panel : Panel) → Does panel (event_told words panel).panel
   unfolding event_told
-  event_does [] panel = acts.same panel.screen.tree
+  event_does [] panel = acts.same panel.windowing.tree
   event_does (name ∷ words) panel = by (bytes_eq name (codes "generate")) refl
     where
       by : (b : Bool) → bytes_eq name (codes "generate") ≡ b → Does panel (event_told (name ∷ words) panel).panel
       by true is = rw is (generate_does words panel)
-      by false is = rw is (acts.same panel.screen.tree)
+      by false is = rw is (acts.same panel.windowing.tree)
 
   binding_does : (command : BindingCommand) (words : List (List ℕ)) (panel : Panel) → Does panel (binding_command_done command words panel).panel
   unfolding binding_command_done
-  binding_does binding.Bind words panel = acts.same panel.screen.tree
-  binding_does binding.Bindtags words panel = bindtags_does words panel.screen.tree
+  binding_does binding.Bind words panel = acts.same panel.windowing.tree
+  binding_does binding.Bindtags words panel = bindtags_does words panel.windowing.tree
   binding_does binding.Event words panel = event_does words panel
-  binding_does binding.Focus words panel = acts.same panel.screen.tree
+  binding_does binding.Focus words panel = acts.same panel.windowing.tree
 
   -- ── windows ──
 
@@ -323,7 +323,7 @@ module _ (Q : Tree → Tree → Type 0) (acts : HoldsOfActs Q) where
   not_main true fault rest is = absurd (cc)
   not_main false fault rest is = (refl, is)
 
-  create_does : (kind : Kind) (words : List (List ℕ)) (own : Screen) (store : Store) → Q own.tree (create_words kind words own store).own.tree
+  create_does : (kind : Kind) (words : List (List ℕ)) (own : Windowing) (store : Store) → Q own.tree (create_words kind words own store).own.tree
   unfolding create_words
   create_does kind [] own store = acts.same own.tree
   create_does kind (path ∷ options) own store = by (path_refusal path own.tree) refl
@@ -341,7 +341,7 @@ module _ (Q : Tree → Tree → Type 0) (acts : HoldsOfActs Q) where
       by None is = rw is (tested (not_main (bytes_eq path (codes ".")) BadPath (refusal path own.tree) is) (configured_new kind (settings options (options_of kind))))
       by (Some fault) is = rw is (acts.same own.tree)
 
-  window_does : (command : WindowCommand) (words : List (List ℕ)) (own : Screen) (store : Store) → Q own.tree (window_command_done command words own store).own.tree
+  window_does : (command : WindowCommand) (words : List (List ℕ)) (own : Windowing) (store : Store) → Q own.tree (window_command_done command words own store).own.tree
   unfolding window_command_done
   window_does (Make kind) words own store = create_does kind words own store
   window_does Winfo words own store = acts.same own.tree
@@ -349,28 +349,28 @@ module _ (Q : Tree → Tree → Type 0) (acts : HoldsOfActs Q) where
 
   screen_does : (command : ScreenCommand) (words : List (List ℕ)) (panel : Panel) (store : Store) → Does panel (screen_command_done command words panel store).panel
   unfolding screen_command_done
-  screen_does (OnWindow command) words panel store = window_does command words panel.screen store
-  screen_does Pack words panel store = acts.same panel.screen.tree
+  screen_does (OnWindow command) words panel store = window_does command words panel.windowing store
+  screen_does Pack words panel store = acts.same panel.windowing.tree
 
   -- ── what class bindings run ──
 
   selection_does : (number : ℕ) (panel : Panel) → Does panel (selection_told number panel).panel
-  selection_does number panel = by (selection_of panel.moment (window_at number panel.screen.tree))
+  selection_does number panel = by (selection_of panel.moment (window_at number panel.windowing.tree))
     where
       by : (event : Option Event) → Does panel (dispatched_if event panel).panel
       by (Some event) = chosen_does event panel
-      by None = acts.same panel.screen.tree
+      by None = acts.same panel.windowing.tree
 
   class_does : (command : ClassCommand) (words : List (List ℕ)) (panel : Panel) (store : Store) → Does panel (class_told command words panel store).panel
   unfolding class_told
   class_does command words panel store =
       let there : ClassDone = class_command command words panel store in
-      acts.after panel.screen.tree there.panel.screen.tree (outcome_for there.outcome there.panel).panel.screen.tree
-      (same_tree panel.screen.tree there.panel.screen.tree (class_tree command words panel.moment panel.screen (arrivals_in panel) store))
+      acts.after panel.windowing.tree there.panel.windowing.tree (outcome_for there.outcome there.panel).panel.windowing.tree
+      (same_tree panel.windowing.tree there.panel.windowing.tree (class_tree command words panel.moment panel.windowing (arrivals_in panel) store))
       (by there.outcome there.panel)
     where
       by : (outcome : ClassOutcome) (panel : Panel) → Does panel (outcome_for outcome panel).panel
-      by (class.Acts act) panel = acts.same panel.screen.tree
+      by (class.Acts act) panel = acts.same panel.windowing.tree
       by (class.Selects number) panel = selection_does number panel
 
   -- ── all commands ──
@@ -383,13 +383,13 @@ module _ (Q : Tree → Tree → Type 0) (acts : HoldsOfActs Q) where
   command_does (command.Class named) words panel store = class_does named words panel store
 
   done_does : (named : Option TkCommand) (words : List (List ℕ)) (panel : Panel) (store : Store) → Does panel (done_by named words panel store).panel
-  done_does None words panel store = acts.same panel.screen.tree
+  done_does None words panel store = acts.same panel.windowing.tree
   done_does (Some named) words panel store = command_does named words panel store
 
   pub command_acts : (words : List (List ℕ)) (panel : Panel) (store : Store) → Does panel (panel_command words panel store).panel
-  command_acts [] panel store = acts.same panel.screen.tree
+  command_acts [] panel store = acts.same panel.windowing.tree
   command_acts (name ∷ words) panel store = by (begins_path name)
     where
       by : (b : Bool) → Does panel (cond b (path_told name words panel store) (done_by (command_named name) words panel store)).panel
-      by true = same_tree panel.screen.tree (path_words name words panel.screen store).own.tree (path_tree name words panel.screen store)
+      by true = same_tree panel.windowing.tree (path_words name words panel.windowing store).own.tree (path_tree name words panel.windowing store)
       by false = done_does (command_named name) words panel store

@@ -8,7 +8,7 @@ use Rattle.tcl_control.specs.declared.code.Code.{Code}
 use Rattle.tcl_control.specs.declared.code.Code.TheVariants.{Normal, Error, Return, Break, Continue}
 use Rattle.tcl_interp.specs.Evaluation.{State, Outcome, Ended, OutOfSteps, and_then, stepped, with_step}
 use Rattle.tcl_interp.specs.Scripts.{out_of_global}
-use Rattle.tk_after.specs.declared.entry.Entry.{Entry}
+use Rattle.tk_after.specs.declared.waiting.WaitingScript.{WaitingScript}
 use Rattle.tk_after.specs.Timers.{due_moments, entry_with, first_due, idle_ids, least}
 use Rattle.tk_after.proofs.Dues.{first_due-at, least_found}
 use Rattle.tk_packer.specs.declared.changes.PlaceChange.{PlaceChange}
@@ -34,8 +34,8 @@ use Rattle.tk_panel.proofs.Choices.{chosen_queue}
 use Rattle.tk_commands.specs.Course.{bound_ended, event_job, with_end}
 use Rattle.tk_commands.proofs.Drained.{LeavesTimers, drained_leaves, drained_out, layout_leaves, then}
 use Rattle.tk_app.specs.Destroy.{destroy_dispatched, destroy_meaning, windows_destroyed}
-use Rattle.tk_app.specs.Dispatch.{Continuation, after_bound, global_meaning, bound_meaning, dispatch_meaning, in_panel, shown}
-use Rattle.tk_app.specs.Items.{entry_meaning, entry_taken, idle_meaning, item_meaning, on_idle, on_layout, on_queue, on_timer, round_meaning}
+use Rattle.tk_app.specs.Dispatch.{Continuation, after_bound, global_meaning, bound_meaning, dispatch_meaning, in_panel, with_shown}
+use Rattle.tk_app.specs.Items.{waiting_meaning, waiting_taken, idle_meaning, item_meaning, on_idle, on_layout, on_queue, on_timer, round_meaning}
 use Rattle.tk_app.specs.Jobs.{goes_on, meaning, on_next, starts}
 use Rattle.tk_app.specs.Seen.{Seen}
 use Rattle.tk_app.specs.Settle.{Destroys, Dispatches, Settles, Updates, UpdatesIdleTasks, laid, settle_meaning}
@@ -55,11 +55,11 @@ stepped_same (suc left) state f g same = same left
 step_same : (state : State Seen) (f g : Continuation) → ((left : ℕ) → f (record state { steps = left }) ≡ g (record state { steps = left })) → with_step state f ≡ with_step state g
 step_same state f g same = stepped_same state.steps state f g same
 
-shown_same : (panel : Panel) (state : State Seen) → panel.moment ≡ state.shows.panel.moment → in_panel panel state ≡ shown panel state
-shown_same panel state is = ap (λ m. shown (record panel { moment = m }) state) (sym is)
+shown_same : (panel : Panel) (state : State Seen) → panel.moment ≡ state.shows.panel.moment → in_panel panel state ≡ with_shown panel state
+shown_same panel state is = ap (λ m. with_shown (record panel { moment = m }) state) (sym is)
 
 -- how a script that is no event's has ended
-end_shown : (code : Code) (text : List ℕ) (state : State Seen) → in_panel (with_end code text state.shows.panel) state ≡ shown (with_end code text state.shows.panel) state
+end_shown : (code : Code) (text : List ℕ) (state : State Seen) → in_panel (with_end code text state.shows.panel) state ≡ with_shown (with_end code text state.shows.panel) state
 end_shown Normal text state = refl
 end_shown Error text state = refl
 end_shown (Return code) text state = refl
@@ -68,14 +68,14 @@ end_shown Continue text state = refl
 
 -- ── the timer that is due ──
 
-pub none_due : (moment : ℕ) (entries : List Entry) → is_due moment entries ≡ false → first_due moment entries ≡ None
+pub none_due : (moment : ℕ) (entries : List WaitingScript) → is_due moment entries ≡ false → first_due moment entries ≡ None
 none_due moment entries early = by (least (due_moments entries)) refl
   where
     by : (o : Option ℕ) → least (due_moments entries) ≡ o → first_due moment entries ≡ None
     by None is = rw is refl
     by (Some due) is = let late : nat_le due moment ≡ false = ap (λ o. option_map_or (λ due. nat_le due moment) o false) (sym is) ∙ early in rw (is, late) refl
 
-some_due : (moment : ℕ) (entries : List Entry) → is_due moment entries ≡ true → first_due moment entries ≡ None → ⊥
+some_due : (moment : ℕ) (entries : List WaitingScript) → is_due moment entries ≡ true → first_due moment entries ≡ None → ⊥
 some_due moment entries due none = by (least (due_moments entries)) refl
   where
     by : (o : Option ℕ) → least (due_moments entries) ≡ o → ⊥
@@ -87,7 +87,7 @@ some_due moment entries due none = by (least (due_moments entries)) refl
 module _ (room : ℕ) where
   -- what comes next, in a panel of the same moment
   abbrev comes : State Seen → Next → Outcome Seen
-  comes state there = on_next room (shown there.0 state) there.1
+  comes state there = on_next room (with_shown there.0 state) there.1
 
   goes : (job : Job) (state : State Seen) → meaning room job state ≡ comes state (next job state.store state.shows.panel)
   goes job state =
@@ -101,7 +101,7 @@ module _ (room : ℕ) where
       → (let there : Panel × Job = bound_ended code text scripts rest state.shows.panel in meaning room there.1 (in_panel there.0 state))
       ≡ after_bound room others (meaning room (without_event rest)) state code text
   bound_end scripts rest others same none state Normal text = same state
-  bound_end scripts rest others same none state Error text = none (shown (with_line Errors text state.shows.panel) state)
+  bound_end scripts rest others same none state Error text = none (with_shown (with_line Errors text state.shows.panel) state)
   bound_end scripts rest others same none state (Return code) text = same state
   bound_end scripts rest others same none state Break text = none state
   bound_end scripts rest others same none state Continue text = same state
@@ -131,15 +131,15 @@ module _ (room : ℕ) where
     where
       by : ((state : State Seen) → bound_meaning room scripts f state ≡ bound_meaning room scripts g state) → (left : State Seen) (code : Code) (text : List ℕ) → after_bound room (bound_meaning room scripts f) f left code text ≡ after_bound room (bound_meaning room scripts g) g left code text
       by others left Normal text = others left
-      by others left Error text = same (shown (with_line Errors text left.shows.panel) left)
+      by others left Error text = same (with_shown (with_line Errors text left.shows.panel) left)
       by others left (Return code) text = others left
       by others left Break text = same left
       by others left Continue text = others left
 
   -- the scripts that were chosen, where there are some, are what comes next
   event_comes : (panel : Panel) (script : List ℕ) (scripts : List (List ℕ)) (rest : Rest) (state : State Seen)
-      → comes state (panel, Some (record { event = Some (script ∷ scripts); rest = rest })) ≡ bound_meaning room (script ∷ scripts) (meaning room (without_event rest)) (shown panel state)
-  event_comes panel script scripts rest state = sym (goes (event_job (script ∷ scripts) rest) (shown panel state)) ∙ bound (script ∷ scripts) rest (shown panel state)
+      → comes state (panel, Some (record { event = Some (script ∷ scripts); rest = rest })) ≡ bound_meaning room (script ∷ scripts) (meaning room (without_event rest)) (with_shown panel state)
+  event_comes panel script scripts rest state = sym (goes (event_job (script ∷ scripts) rest) (with_shown panel state)) ∙ bound (script ∷ scripts) rest (with_shown panel state)
 
   -- ── *Destroy* ──
 
@@ -147,8 +147,8 @@ module _ (room : ℕ) where
   abbrev Later : List (List ℕ) → Type 0
   Later paths = (state : State Seen) → comes state (destroys paths state.shows.panel) ≡ destroy_meaning room paths state
 
-  chosen_dispatched : (number : ℕ) (window : Option Window) (behind : Continuation) (state : State Seen) → window_at number state.shows.panel.screen.tree ≡ window
-      → (let there : Panel × List (List ℕ) = destroy_chosen number state.shows.panel in bound_meaning room there.1 behind (shown there.0 state)) ≡ destroy_dispatched room window behind state
+  chosen_dispatched : (number : ℕ) (window : Option Window) (behind : Continuation) (state : State Seen) → window_at number state.shows.panel.windowing.tree ≡ window
+      → (let there : Panel × List (List ℕ) = destroy_chosen number state.shows.panel in bound_meaning room there.1 behind (with_shown there.0 state)) ≡ destroy_dispatched room window behind state
   chosen_dispatched number None behind state is = rw is refl
   chosen_dispatched number (Some window) behind state is = rw is refl
 
@@ -158,39 +158,39 @@ module _ (room : ℕ) where
   windows_go paths later [] state = later state
   windows_go paths later (number ∷ numbers) state =
       let there : Panel × List (List ℕ) = destroy_chosen number state.shows.panel in
-      by there.1 there.0 (windows_go paths later numbers) ∙ chosen_dispatched number (window_at number state.shows.panel.screen.tree) gone state refl
+      by there.1 there.0 (windows_go paths later numbers) ∙ chosen_dispatched number (window_at number state.shows.panel.windowing.tree) gone state refl
     where
       gone : Continuation
-      gone left = windows_destroyed room numbers (destroy_meaning room paths) (shown (removed number left.shows.panel) left)
+      gone left = windows_destroyed room numbers (destroy_meaning room paths) (with_shown (removed number left.shows.panel) left)
 
       by : (scripts : List (List ℕ)) (after : Panel) → ((state : State Seen) → comes state (doomed_next paths (destroys paths) numbers state.shows.panel) ≡ windows_destroyed room numbers (destroy_meaning room paths) state)
           → (let doomed : Doomed = or_removed number numbers (next_doomed numbers) after scripts in comes state (on_doomed paths (destroys paths) doomed.panel doomed.rest doomed.found))
-          ≡ bound_meaning room scripts gone (shown after state)
-      by [] after rest = rest (shown (removed number after) state)
+          ≡ bound_meaning room scripts gone (with_shown after state)
+      by [] after rest = rest (with_shown (removed number after) state)
       by (script ∷ scripts) after rest =
           event_comes after script scripts (DestroysRest (Some number) numbers paths) state
           ∙ bound_same (script ∷ scripts) (meaning room (without_event (DestroysRest (Some number) numbers paths))) gone
-          (λ left. goes (without_event (DestroysRest (Some number) numbers paths)) left ∙ rest (shown (removed number left.shows.panel) left)) (shown after state)
+          (λ left. goes (without_event (DestroysRest (Some number) numbers paths)) left ∙ rest (with_shown (removed number left.shows.panel) left)) (with_shown after state)
 
   destroyed : (paths : List (List ℕ)) → Later paths
   unfolding destroys
   destroyed [] state = refl
   destroyed (path ∷ paths) state =
-      let numbers : List ℕ = doomed_by path state.shows.panel in windows_go paths (destroyed paths) numbers (shown (marked numbers state.shows.panel) state)
+      let numbers : List ℕ = doomed_by path state.shows.panel in windows_go paths (destroyed paths) numbers (with_shown (marked numbers state.shows.panel) state)
 
   -- ── a timer, or an idle script ──
 
   entry_starts : (id : ℕ) (script : List ℕ) (rest : Rest) (behind : Continuation) → ((state : State Seen) → meaning room (without_event rest) state ≡ behind state) → (state : State Seen)
-      → and_then (global_meaning room script (in_panel (entry_taken id state.shows.panel) state)) (goes_on room (without_event rest)) ≡ entry_meaning room id script behind state
+      → and_then (global_meaning room script (in_panel (waiting_taken id state.shows.panel) state)) (goes_on room (without_event rest)) ≡ waiting_meaning room id script behind state
   entry_starts id script rest behind same state =
-      then_same (global_meaning room script (shown (entry_taken id state.shows.panel) state)) (goes_on room (without_event rest))
-      (λ left code text. behind (shown (with_end (out_of_global code) text left.shows.panel) left))
-      (λ left code text. ap (meaning room (without_event rest)) (end_shown (out_of_global code) text left) ∙ same (shown (with_end (out_of_global code) text left.shows.panel) left))
+      then_same (global_meaning room script (with_shown (waiting_taken id state.shows.panel) state)) (goes_on room (without_event rest))
+      (λ left code text. behind (with_shown (with_end (out_of_global code) text left.shows.panel) left))
+      (λ left code text. ap (meaning room (without_event rest)) (end_shown (out_of_global code) text left) ∙ same (with_shown (with_end (out_of_global code) text left.shows.panel) left))
 
   -- ── a round ──
 
   -- an idle script that is among those that wait is there
-  pub idle_there : (id : ℕ) (ids : List ℕ) (entries : List Entry) → idle_ids entries ≡ id ∷ ids → is_some (entry_with id entries) ≡ true
+  pub idle_there : (id : ℕ) (ids : List ℕ) (entries : List WaitingScript) → idle_ids entries ≡ id ∷ ids → is_some (entry_with id entries) ≡ true
   idle_there id ids [] is = absurd (cc)
   idle_there id ids (entry ∷ entries) is = by (entry.id == id) refl (is_none entry.due) refl (λ rest. idle_there id ids entries rest)
     where
@@ -210,14 +210,14 @@ module _ (room : ℕ) where
     round [] state = refl
     round (id ∷ ids) state = by (entry_with id state.shows.panel.timers.entries) refl (round ids)
       where
-        by : (entry : Option Entry) → entry_with id state.shows.panel.timers.entries ≡ entry
+        by : (entry : Option WaitingScript) → entry_with id state.shows.panel.timers.entries ≡ entry
             → ((state : State Seen) → meaning room (without_event (Rounds ids home)) state ≡ round_meaning room ids again state)
             → meaning room (without_event (Rounds (id ∷ ids) home)) state ≡ idle_meaning room id entry (round_meaning room ids again) state
         by None is others = goes (without_event (Rounds (id ∷ ids) home)) state ∙ rw is refl ∙ sym (goes (without_event (Rounds ids home)) state) ∙ others state
         by (Some entry) is others =
             goes (without_event (Rounds (id ∷ ids) home)) state
             ∙ rw is refl
-            ∙ step_same state (starts room (without_event (Rounds (id ∷ ids) home))) (entry_meaning room id entry.script (round_meaning room ids again))
+            ∙ step_same state (starts room (without_event (Rounds (id ∷ ids) home))) (waiting_meaning room id entry.script (round_meaning room ids again))
             (λ left. rw is (entry_starts id entry.script (Rounds ids home) (round_meaning room ids again) others (record state { steps = left })))
 
     idle_item : (ids : List ℕ) (state : State Seen) → idle_ids state.shows.panel.timers.entries ≡ ids → comes state (on_round home ids state.shows.panel) ≡ on_idle room ids again state
@@ -246,7 +246,7 @@ module _ (room : ℕ) where
     turned state held = goes (without_event (Rounds [] home)) state ∙ ap (comes state) (takes_turns state.store state.shows.panel held)
 
     first_event : (event : Event) (events : List Event) (state : State Seen) → state.shows.panel.queue ≡ event ∷ events → Open state.shows.panel
-        → comes state (turn home state.store state.shows.panel) ≡ dispatch_meaning room event (again home) (shown (with_queue events state.shows.panel) state)
+        → comes state (turn home state.store state.shows.panel) ≡ dispatch_meaning room event (again home) (with_shown (with_queue events state.shows.panel) state)
     unfolding turn drained
     first_event event events state is held =
         let panel : Panel = state.shows.panel in
@@ -256,17 +256,17 @@ module _ (room : ℕ) where
       where
         by : (scripts : List (List ℕ)) (after : Panel) → after.queue ≡ events → Open after
             → (let found : Panel × List (List ℕ) = or_later (drained events) after scripts in comes state (on_event home (otherwise state.store) found.0 found.1))
-            ≡ bound_meaning room scripts (again home) (shown after state)
+            ≡ bound_meaning room scripts (again home) (with_shown after state)
         by [] after left still =
             ap (λ queue. (let found : Panel × List (List ℕ) = drained queue after in comes state (on_event home (otherwise state.store) found.0 found.1))) (sym left)
-            ∙ sym (turned (shown after state) still)
+            ∙ sym (turned (with_shown after state) still)
         by (script ∷ scripts) after left still = event_comes after script scripts (Rounds [] home) state
 
     due_as : (old new : Panel) → LeavesTimers old new → is_due new.moment new.timers.entries ≡ is_due old.moment old.timers.entries
     due_as old new left = rw (left.moment, left.timers) refl
 
-    layout_item : (changes : List PlaceChange) (state : State Seen) → changes_due state.shows.panel.screen state.store ≡ changes → state.shows.panel.queue ≡ []
-        → is_due state.shows.panel.moment state.shows.panel.timers.entries ≡ false → IsSound state.shows.panel.screen.tree → Open state.shows.panel
+    layout_item : (changes : List PlaceChange) (state : State Seen) → changes_due state.shows.panel.windowing state.store ≡ changes → state.shows.panel.queue ≡ []
+        → is_due state.shows.panel.moment state.shows.panel.timers.entries ≡ false → IsSound state.shows.panel.windowing.tree → Open state.shows.panel
         → comes state (after_layout home state.store state.shows.panel) ≡ on_layout room changes (again home) state
     unfolding turn queue_or_round
     layout_item [] state is none early sound held =
@@ -279,32 +279,32 @@ module _ (room : ℕ) where
         let l : Panel = laid_out state.store panel in
         let there : Panel × List (List ℕ) = drained l.queue l in
         by there.1 there.0 (drained_out l.queue l refl) (due_as panel there.0 (then (layout_leaves state.store panel) (drained_leaves l.queue l)) ∙ early) (nothing_again state.store panel sound)
-        ∙ sym (turned (shown l state) (stays panel l (laid_closed state.store panel) held))
+        ∙ sym (turned (with_shown l state) (stays panel l (laid_closed state.store panel) held))
       where
-        by : (scripts : List (List ℕ)) (after : Panel) → (scripts ≡ [] → after.queue ≡ []) → is_due after.moment after.timers.entries ≡ false → changes_due after.screen state.store ≡ []
+        by : (scripts : List (List ℕ)) (after : Panel) → (scripts ≡ [] → after.queue ≡ []) → is_due after.moment after.timers.entries ≡ false → changes_due after.windowing state.store ≡ []
             → comes state (on_event home (idle_round home) after scripts) ≡ comes state (on_event home (otherwise state.store) after scripts)
         by [] after out early nothing =
             ap (comes state) (sym (rw early (ap (queue_or_round home) (nothing_to_lay state.store after nothing) ∙ round_alone home after (out refl))))
         by (script ∷ scripts) after out early nothing = refl
 
-    timer_item : (first : Option Entry) (state : State Seen) → first_due state.shows.panel.moment state.shows.panel.timers.entries ≡ first → state.shows.panel.queue ≡ []
-        → IsSound state.shows.panel.screen.tree → Open state.shows.panel
+    timer_item : (first : Option WaitingScript) (state : State Seen) → first_due state.shows.panel.moment state.shows.panel.timers.entries ≡ first → state.shows.panel.queue ≡ []
+        → IsSound state.shows.panel.windowing.tree → Open state.shows.panel
         → comes state (otherwise state.store state.shows.panel) ≡ on_timer room first (again home) state
     timer_item first state is none sound held = by (is_due state.shows.panel.moment state.shows.panel.timers.entries) refl first is
       where
         panel : Panel
         panel = state.shows.panel
 
-        by : (due : Bool) → is_due state.shows.panel.moment state.shows.panel.timers.entries ≡ due → (first : Option Entry) → first_due state.shows.panel.moment state.shows.panel.timers.entries ≡ first
+        by : (due : Bool) → is_due state.shows.panel.moment state.shows.panel.timers.entries ≡ due → (first : Option WaitingScript) → first_due state.shows.panel.moment state.shows.panel.timers.entries ≡ first
             → comes state (cond due (state.shows.panel, Some (without_event (Rounds [] home))) (after_layout home state.store state.shows.panel)) ≡ on_timer room first (again home) state
         by true due None is = absurd (some_due state.shows.panel.moment state.shows.panel.timers.entries due is)
         by true due (Some entry) is =
-            step_same state (starts room (without_event (Rounds [] home))) (entry_meaning room entry.id entry.script (again home))
+            step_same state (starts room (without_event (Rounds [] home))) (waiting_meaning room entry.id entry.script (again home))
             (λ left. rw is (entry_starts entry.id entry.script (Rounds [] home) (again home) (λ state. refl) (record state { steps = left })))
-        by false due None is = layout_item (changes_due state.shows.panel.screen state.store) state refl none due sound held
+        by false due None is = layout_item (changes_due state.shows.panel.windowing state.store) state refl none due sound held
         by false due (Some entry) is = let wrong : None ≡ Some entry = sym (none_due state.shows.panel.moment state.shows.panel.timers.entries due) ∙ is in absurd (cc)
 
-    items : (queue : List Event) (state : State Seen) → state.shows.panel.queue ≡ queue → IsSound state.shows.panel.screen.tree → Open state.shows.panel
+    items : (queue : List Event) (state : State Seen) → state.shows.panel.queue ≡ queue → IsSound state.shows.panel.windowing.tree → Open state.shows.panel
         → comes state (turn home state.store state.shows.panel) ≡ on_queue room queue (again home) state
     unfolding turn drained
     items [] state none sound held =
@@ -312,7 +312,7 @@ module _ (room : ℕ) where
         ∙ timer_item (first_due state.shows.panel.moment state.shows.panel.timers.entries) state refl none sound held
     items (event ∷ events) state is sound held = first_event event events state is held
 
-    item : (state : State Seen) → IsSound state.shows.panel.screen.tree → Open state.shows.panel → again home state ≡ item_meaning room (again home) state
+    item : (state : State Seen) → IsSound state.shows.panel.windowing.tree → Open state.shows.panel → again home state ≡ item_meaning room (again home) state
     item state sound held = turned state held ∙ items state.shows.panel.queue state refl sound held
 
   -- ── `update` ──
@@ -320,7 +320,7 @@ module _ (room : ℕ) where
   abbrev AnyPanel : Panel → Type 0
   AnyPanel panel = Unit {0}
 
-  updated : (state : State Seen) → IsSound state.shows.panel.screen.tree → again Update state ≡ item_meaning room (again Update) state
+  updated : (state : State Seen) → IsSound state.shows.panel.windowing.tree → again Update state ≡ item_meaning room (again Update) state
   updated state sound = item Update AnyPanel (λ store panel held. refl) (λ old new same held. tt) state sound tt
 
   last_layout : (state : State Seen) → again LastLayout state ≡ laid state
@@ -331,21 +331,21 @@ module _ (room : ℕ) where
   round_same [] f g same state = same state
   round_same (id ∷ ids) f g same state = by (entry_with id state.shows.panel.timers.entries) (round_same ids f g same)
     where
-      by : (entry : Option Entry) → ((state : State Seen) → round_meaning room ids f state ≡ round_meaning room ids g state)
+      by : (entry : Option WaitingScript) → ((state : State Seen) → round_meaning room ids f state ≡ round_meaning room ids g state)
           → idle_meaning room id entry (round_meaning room ids f) state ≡ idle_meaning room id entry (round_meaning room ids g) state
       by None rest = rest state
       by (Some entry) rest =
-          step_same state (entry_meaning room id entry.script (round_meaning room ids f)) (entry_meaning room id entry.script (round_meaning room ids g))
-          (λ steps. then_same (global_meaning room entry.script (shown (entry_taken id state.shows.panel) (record state { steps = steps })))
-          (λ left code text. round_meaning room ids f (shown (with_end (out_of_global code) text left.shows.panel) left))
-          (λ left code text. round_meaning room ids g (shown (with_end (out_of_global code) text left.shows.panel) left))
-          (λ left code text. rest (shown (with_end (out_of_global code) text left.shows.panel) left)))
+          step_same state (waiting_meaning room id entry.script (round_meaning room ids f)) (waiting_meaning room id entry.script (round_meaning room ids g))
+          (λ steps. then_same (global_meaning room entry.script (with_shown (waiting_taken id state.shows.panel) (record state { steps = steps })))
+          (λ left code text. round_meaning room ids f (with_shown (with_end (out_of_global code) text left.shows.panel) left))
+          (λ left code text. round_meaning room ids g (with_shown (with_end (out_of_global code) text left.shows.panel) left))
+          (λ left code text. rest (with_shown (with_end (out_of_global code) text left.shows.panel) left)))
 
-  updated_idle : (state : State Seen) → again IdleTasks state ≡ (let first : Panel = laid_out state.store state.shows.panel in round_meaning room (idle_ids first.timers.entries) laid (shown first state))
+  updated_idle : (state : State Seen) → again IdleTasks state ≡ (let first : Panel = laid_out state.store state.shows.panel in round_meaning room (idle_ids first.timers.entries) laid (with_shown first state))
   unfolding still_waiting
   updated_idle state =
       let first : Panel = laid_out state.store state.shows.panel in
-      goes (without_event (Rounds [] IdleTasks)) state ∙ by (idle_ids first.timers.entries) (shown first state) refl
+      goes (without_event (Rounds [] IdleTasks)) state ∙ by (idle_ids first.timers.entries) (with_shown first state) refl
     where
       by : (ids : List ℕ) (state : State Seen) → idle_ids state.shows.panel.timers.entries ≡ ids → comes state (tasks_round state.store ids state.shows.panel) ≡ round_meaning room ids laid state
       by [] state is = refl
@@ -354,7 +354,7 @@ module _ (room : ℕ) where
 -- ── the laws ──
 
 pub dispatches : Dispatches
-dispatches room event rest state = (let there : Panel × List (List ℕ) = chosen event state.shows.panel in bound room there.1 rest (shown there.0 state))
+dispatches room event rest state = (let there : Panel × List (List ℕ) = chosen event state.shows.panel in bound room there.1 rest (with_shown there.0 state))
 
 pub destroys_all : Destroys
 unfolding next_doomed

@@ -1,6 +1,8 @@
 -- Where *Destroy* of a path has ended, its windows are gone.
 use Rattle.std.proofs.Common.{◌≡◌, ◌⊎◌, inl, inr, ℕ, zero, suc, ◌<◌, ◌≤◌, Bool, true, false, cond, List, [], ◌∷◌, ◌++◌, Option, Some, None, refl, sym, ap, ◌∙◌, subst, arith, append_assoc}
-use Rattle.std.specs.Prelude.{◌==◌, filter, map, nat_le}
+use Rattle.std.specs.Prelude.{◌==◌, filter, find, map, nat_le}
+use Rattle.std.specs.Option.{option_map_or}
+use Rattle.std.specs.Str.{bytes_eq}
 use Rattle.std.proofs.lemmas.Bool.{leb-false, leb-true}
 use Rattle.tcl_control.specs.declared.code.Code.{Code}
 use Rattle.tcl_control.specs.declared.code.Code.TheVariants.{Normal, Error, Return, Break, Continue}
@@ -13,16 +15,16 @@ use Rattle.tk_sequences.specs.declared.event.Event.{Event}
 use Rattle.tk_tree.specs.Change.{dying}
 use Rattle.tk_tree.specs.declared.window.Window.{Window}
 use Rattle.tk_tree.specs.Orders.{below_first, post_order}
-use Rattle.tk_tree.specs.Own.{IsSound, Own as Tree, at_path, child_numbers, is_child_of, window_at, with_change}
+use Rattle.tk_tree.specs.Own.{IsSound, Tree, at_path, child_numbers, is_child_of, window_at, with_change}
 use Rattle.tk_tree.specs.Window.{number_of}
 use Rattle.tk_tree.proofs.Lists.{some_same}
 use Rattle.tk_panel.specs.declared.transcript.Stream.TheVariants.{Err as Errors}
 use Rattle.tk_panel.specs.Choice.{chosen}
-use Rattle.tk_panel.specs.Destroy.{all_dying, destroy_event, doomed_at, doomed_from, marked, removed, removed_at}
+use Rattle.tk_panel.specs.Destroy.{all_dying, destroy_event, marked, removed, removed_at}
 use Rattle.tk_panel.specs.Panel.{Panel}
 use Rattle.tk_panel.specs.Reports.{with_line}
 use Rattle.tk_app.specs.Destroy.{destroy_dispatched, destroy_meaning, windows_destroyed}
-use Rattle.tk_app.specs.Dispatch.{Continuation, after_bound, global_meaning, bound_meaning, shown}
+use Rattle.tk_app.specs.Dispatch.{Continuation, after_bound, global_meaning, bound_meaning, with_shown}
 use Rattle.tk_app.specs.Gone.{AreGone, DestroysAll, LeavesNone}
 use Rattle.tk_app.specs.Seen.{Seen}
 use Rattle.tk_app.proofs.Grows.{Grows, LivesIn, StaysAndGrows, Was, found_given, found_number, grow_acts, none_left}
@@ -35,8 +37,8 @@ use Rattle.tk_app.proofs.Trees.{Acts, by_screen, dying_acts, removed_acts}
 abbrev From : Tree → Seen → Type 0
 From first seen = Since StaysAndGrows grow_acts first seen
 
-on_from : (first : Tree) (old new : Panel) → StaysAndGrows first old.screen.tree → Acts StaysAndGrows grow_acts old new → StaysAndGrows first new.screen.tree
-on_from first old new since done = grow_acts.after first old.screen.tree new.screen.tree since done
+on_from : (first : Tree) (old new : Panel) → StaysAndGrows first old.windowing.tree → Acts StaysAndGrows grow_acts old new → StaysAndGrows first new.windowing.tree
+on_from first old new since done = grow_acts.after first old.windowing.tree new.windowing.tree since done
 
 -- ── a window that is gone ──
 
@@ -84,11 +86,11 @@ childless : (n : ℕ) (tree : Tree) → IsSound tree → ((x : Window) → windo
 childless n tree sound none = ap (map number_of) (none_from n tree sound none [] tree.windows refl)
 
 -- a member is found, and what is found is a member
-found_member : (n : ℕ) (windows : List Window) (x : Window) → numbered number_of n windows ≡ Some x → Member x windows
-found_member n [] x is = absurd (cc)
-found_member n (window ∷ windows) x is = by (window.number == n) refl (found_member n windows x)
+found_member : (test : Window → Bool) (windows : List Window) (x : Window) → find test windows ≡ Some x → Member x windows
+found_member test [] x is = absurd (cc)
+found_member test (window ∷ windows) x is = by (test window) refl (found_member test windows x)
   where
-    by : (b : Bool) → (window.number == n) ≡ b → (numbered number_of n windows ≡ Some x → Member x windows) → Member x (window ∷ windows)
+    by : (b : Bool) → test window ≡ b → (find test windows ≡ Some x → Member x windows) → Member x (window ∷ windows)
     by true same rest = inl (sym (some_same window x (rw same at is)))
     by false differs rest = inr (rest (rw differs at is))
 
@@ -133,7 +135,7 @@ module _ (room : ℕ) (all : List ℕ) where
       by : ((left : State Seen) → From first left.shows → Good (bound_meaning room scripts behind left)) → (left : State Seen) (code : Code) (text : List ℕ) → From first left.shows
           → Good (after_bound room (bound_meaning room scripts behind) behind left code text)
       by others left Normal text kept = others left kept
-      by others left Error text kept = rest (shown (with_line Errors text left.shows.panel) left) kept
+      by others left Error text kept = rest (with_shown (with_line Errors text left.shows.panel) left) kept
       by others left (Return code) text kept = others left kept
       by others left Break text kept = rest left kept
       by others left Continue text kept = others left kept
@@ -158,7 +160,7 @@ module _ (room : ℕ) (all : List ℕ) where
       where
         old : (x : Window) → window_at x.number now ≡ Some x → x.parent ≡ Some n → Was x.number x first → ⊥
         old x there parent was =
-            let member : Member was.before first.windows = found_member x.number first.windows was.before was.there in
+            let member : Member was.before first.windows = found_member (λ (w : Window). w.number == x.number) first.windows was.before was.there in
             let among : Among was.before.number done = only was.before member (sym was.parent ∙ parent) in
             let number : was.before.number ≡ x.number = found_number x.number first was.before was.there in
             absurd (cc (sym there ∙ gone_among x.number done now gone (subst (λ k. Among k done) number among)))
@@ -175,43 +177,43 @@ module _ (room : ℕ) (all : List ℕ) where
             by false lt = old x there parent (grows.kept x.number x there (leb-false first.next_number x.number lt))
 
     -- so it goes
-    goes : (n : ℕ) (panel : Panel) → child_numbers n panel.screen.tree.windows ≡ [] → window_at n (removed n panel).screen.tree ≡ None
+    goes : (n : ℕ) (panel : Panel) → child_numbers n panel.windowing.tree.windows ≡ [] → window_at n (removed n panel).windowing.tree ≡ None
     unfolding removed
-    goes n panel childless = by (window_at n panel.screen.tree) refl
+    goes n panel childless = by (window_at n panel.windowing.tree) refl
       where
-        by : (found : Option Window) → window_at n panel.screen.tree ≡ found → window_at n (removed_at n panel found).screen.tree ≡ None
+        by : (found : Option Window) → window_at n panel.windowing.tree ≡ found → window_at n (removed_at n panel found).windowing.tree ≡ None
         by None is = is
-        by (Some window) is = rw childless (none_left n panel.screen.tree.windows)
+        by (Some window) is = rw childless (none_left n panel.windowing.tree.windows)
 
     -- one window, where those behind it go so
     good_window : (n : ℕ) (ns done : List ℕ) (behind : Continuation) → HasOnly n done → n < first.next_number → ((window : Window) → window_at n first ≡ Some window → window.dying ≡ true)
-        → ((state : State Seen) → From first state.shows → AllGone (n ∷ done) state.shows.panel.screen.tree → Good (windows_destroyed room ns behind state))
-        → (state : State Seen) → From first state.shows → AllGone done state.shows.panel.screen.tree → Good (windows_destroyed room (n ∷ ns) behind state)
+        → ((state : State Seen) → From first state.shows → AllGone (n ∷ done) state.shows.panel.windowing.tree → Good (windows_destroyed room ns behind state))
+        → (state : State Seen) → From first state.shows → AllGone done state.shows.panel.windowing.tree → Good (windows_destroyed room (n ∷ ns) behind state)
     good_window n ns done behind only given dead rest state since gone = by (window_at n here)
       where
         here : Tree
-        here = state.shows.panel.screen.tree
+        here = state.shows.panel.windowing.tree
 
         behind_it : Continuation
-        behind_it left = windows_destroyed room ns behind (shown (removed n left.shows.panel) left)
+        behind_it left = windows_destroyed room ns behind (with_shown (removed n left.shows.panel) left)
 
         next : (left : State Seen) → From here left.shows → Good (behind_it left)
         next left later =
-            let now : Tree = left.shows.panel.screen.tree in
+            let now : Tree = left.shows.panel.windowing.tree in
             let after : Panel = removed n left.shows.panel in
             let from_first : StaysAndGrows first now = grow_acts.after first here now since later in
             let here_sound : IsSound here = (since sound).0 in
             let gone_now : AllGone done now = all_stay done here now (later here_sound).1 gone in
             let acts : Acts StaysAndGrows grow_acts left.shows.panel after = removed_acts StaysAndGrows grow_acts n left.shows.panel in
             let sound_now : IsSound now = (later here_sound).0 in
-            let grown : Grows now after.screen.tree = (acts sound_now).1 in
+            let grown : Grows now after.windowing.tree = (acts sound_now).1 in
             let first_now : Grows first now = (from_first sound).1 in
-            rest (shown after left) (on_from first left.shows.panel after from_first acts) (
+            rest (with_shown after left) (on_from first left.shows.panel after from_first acts) (
               record {
                 given = omega (arith, given, first_now.numbers, grown.numbers);
                 none = goes n left.shows.panel (no_children n done only given dead now sound_now first_now gone_now);
               },
-              all_stay done now after.screen.tree grown gone_now,
+              all_stay done now after.windowing.tree grown gone_now,
             )
 
         by : (window : Option Window) → Good (destroy_dispatched room window behind_it state)
@@ -219,11 +221,11 @@ module _ (room : ℕ) (all : List ℕ) where
         by (Some window) =
             let event : Event = destroy_event window state.shows.panel.moment in
             let there : Panel × List (List ℕ) = chosen event state.shows.panel in
-            good_bound here behind_it next there.1 (shown there.0 state) (by_screen StaysAndGrows grow_acts state.shows.panel there.0 (chosen_screen event state.shows.panel))
+            good_bound here behind_it next there.1 (with_shown there.0 state) (by_screen StaysAndGrows grow_acts state.shows.panel there.0 (chosen_screen event state.shows.panel))
 
     good_windows : (ns done : List ℕ) (behind : Continuation) → AllDoomed ns → AllHave done ns
-        → ((left : State Seen) → From first left.shows → AllGone (pushed ns done) left.shows.panel.screen.tree → Good (behind left))
-        → (state : State Seen) → From first state.shows → AllGone done state.shows.panel.screen.tree → Good (windows_destroyed room ns behind state)
+        → ((left : State Seen) → From first left.shows → AllGone (pushed ns done) left.shows.panel.windowing.tree → Good (behind left))
+        → (state : State Seen) → From first state.shows → AllGone done state.shows.panel.windowing.tree → Good (windows_destroyed room ns behind state)
     good_windows [] done behind doomed have rest state since gone = rest state since gone
     good_windows (n ∷ ns) done behind doomed have rest state since gone =
         good_window n ns done behind have.0 doomed.0 doomed.1 (good_windows ns (n ∷ done) behind doomed.2 have.1 rest) state since gone
@@ -300,9 +302,9 @@ below_given next m (window ∷ windows) below n among = by (is_child_of m window
 
 -- ── the law ──
 
-module _ (room : ℕ) (state : State Seen) (sound : IsSound state.shows.panel.screen.tree) (number : ℕ) (window : Window) (there : window_at number state.shows.panel.screen.tree ≡ Some window) where
+module _ (room : ℕ) (state : State Seen) (sound : IsSound state.shows.panel.windowing.tree) (number : ℕ) (window : Window) (there : window_at number state.shows.panel.windowing.tree ≡ Some window) where
   abbrev tree : Tree
-  tree = state.shows.panel.screen.tree
+  tree = state.shows.panel.windowing.tree
 
   abbrev numbers : List ℕ
   numbers = post_order number tree
@@ -341,36 +343,32 @@ module _ (room : ℕ) (state : State Seen) (sound : IsSound state.shows.panel.sc
       let found : window_at x.number first ≡ Some x = member_found x first marks.0 member in
       let lt : x.number < tree.next_number = omega (arith, found_given x.number first x marks.0 found, dying_next numbers tree) in
       let was = marks.1.kept x.number x found lt in
-      subst (λ k. Among k done) (found_number x.number tree was.before was.there) (only was.before (found_member x.number tree.windows was.before was.there) (sym was.parent ∙ parent))
+      subst (λ k. Among k done) (found_number x.number tree was.before was.there) (only was.before (found_member (λ (w : Window). w.number == x.number) tree.windows was.before was.there) (sym was.parent ∙ parent))
 
   all_have : (ns done : List ℕ) → Ordered tree.windows sound.rising sound.parents done ns → AllHave room numbers first marks.0 done ns
   all_have [] done ordered = tt
   all_have (n ∷ ns) done ordered = (has_only n done ordered.0, all_have ns (n ∷ done) ordered.1)
 
-  all_gone : LeavesNone numbers (windows_destroyed room numbers (destroy_meaning room []) (shown (marked numbers state.shows.panel) state))
+  all_gone : LeavesNone numbers (windows_destroyed room numbers (destroy_meaning room []) (with_shown (marked numbers state.shows.panel) state))
   all_gone =
       good_windows room numbers first marks.0 numbers [] (destroy_meaning room []) (all_doomed numbers (λ n among. among))
       (all_have numbers [] (post_ordered tree.windows sound.rising sound.parents number))
-      (λ left since gone. none_of numbers left.shows.panel.screen.tree (λ n among. gone_among n (pushed numbers []) left.shows.panel.screen.tree gone (all_pushed n numbers [] among)))
-      (shown (marked numbers state.shows.panel) state) (grow_acts.same first) tt
+      (λ left since gone. none_of numbers left.shows.panel.windowing.tree (λ n among. gone_among n (pushed numbers []) left.shows.panel.windowing.tree gone (all_pushed n numbers [] among)))
+      (with_shown (marked numbers state.shows.panel) state) (grow_acts.same first) tt
 
 pub destroys_all : DestroysAll
-destroys_all room path state sound = by_path (at_path path state.shows.panel.screen.tree)
+destroys_all room path state sound = by_path (at_path path state.shows.panel.windowing.tree) refl
   where
     tree : Tree
-    tree = state.shows.panel.screen.tree
+    tree = state.shows.panel.windowing.tree
 
     Gone : List ℕ → Type 0
-    Gone numbers = LeavesNone numbers (windows_destroyed room numbers (destroy_meaning room []) (shown (marked numbers state.shows.panel) state))
+    Gone numbers = LeavesNone numbers (windows_destroyed room numbers (destroy_meaning room []) (with_shown (marked numbers state.shows.panel) state))
 
     by_dying : (number : ℕ) (window : Window) → window_at number tree ≡ Some window → (b : Bool) → Gone (cond b [] (post_order number tree))
     by_dying number window there true = tt
     by_dying number window there false = all_gone room state sound number window there
 
-    by_window : (number : ℕ) (found : Option Window) → window_at number tree ≡ found → Gone (doomed_at number tree found)
-    by_window number None is = tt
-    by_window number (Some window) is = by_dying number window is window.dying
-
-    by_path : (found : Option Window) → Gone (doomed_from tree found)
-    by_path None = tt
-    by_path (Some window) = by_window window.number (window_at window.number tree) refl
+    by_path : (found : Option Window) → at_path path tree ≡ found → Gone (option_map_or (λ w. cond w.dying [] (post_order w.number tree)) found [])
+    by_path None is = tt
+    by_path (Some window) is = by_dying window.number window (member_found window tree sound (found_member (λ (w : Window). bytes_eq path w.path) tree.windows window is)) window.dying

@@ -11,7 +11,7 @@ use Rattle.tk_tree.specs.Create.{below_refusal, child_refusal, first_of_two, par
 use Rattle.tk_tree.specs.declared.fault.WindowFault.{WindowFault}
 use Rattle.tk_tree.specs.declared.fault.WindowFault.TheVariants.{BadName, Dying}
 use Rattle.tk_tree.specs.declared.window.Window.{Window}
-use Rattle.tk_tree.specs.Own.{IsSound, Own as Tree, at_path, window_at, with_change, without_window}
+use Rattle.tk_tree.specs.Own.{IsSound, Tree, at_path, window_at, with_change, without_window}
 use Rattle.tk_tree.specs.Path.{begins_upper, parent_and_name}
 use Rattle.tk_tree.specs.Window.{new_window, number_of}
 use Rattle.tk_tree.proofs.Lists.{find_below, find_numbered, find_passes, some_same}

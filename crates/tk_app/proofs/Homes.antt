@@ -10,7 +10,7 @@ use Rattle.tcl_interp.specs.declared.job.Looked.TheVariants.{Wants, Ends}
 use Rattle.tcl_interp.specs.JobLaws.{Keeps, runs}
 use Rattle.tcl_interp.specs.Meaning.{looked}
 use Rattle.tcl_interp.proofs.Unrolled as jobs
-use Rattle.tk_after.specs.declared.entry.Entry.{Entry}
+use Rattle.tk_after.specs.declared.waiting.WaitingScript.{WaitingScript}
 use Rattle.tk_after.specs.Timers.{first_due, idle_ids}
 use Rattle.tk_panel.specs.declared.job.Home.{Home}
 use Rattle.tk_panel.specs.declared.job.Home.TheVariants.{Settle, Update, IdleTasks, LastLayout}
@@ -103,7 +103,7 @@ wanted (Some next) job on is = let same : next ≡ job = cc in ap settles_last (
 
 -- ── what it starts, and what the end of a script makes of it ──
 
-timer_starts : (home : Home) (panel : Panel) (entry : Option Entry) → home_settles home ≡ true → settles_last (timer_taken (Rounds [] home) panel entry).1.1 ≡ true
+timer_starts : (home : Home) (panel : Panel) (entry : Option WaitingScript) → home_settles home ≡ true → settles_last (timer_taken (Rounds [] home) panel entry).1.1 ≡ true
 timer_starts home panel (Some entry) is = is
 timer_starts home panel None is = is
 

@@ -11,7 +11,7 @@ use Rattle.tcl_interp.specs.JobLaws.{LookedLast}
 use Rattle.tcl_interp.proofs.Ends.{ends_looked}
 use Rattle.tk_after.specs.Timers.{idle_ids}
 use Rattle.tk_screen.specs.Layout.{changes_due}
-use Rattle.tk_screen.specs.Own.{Own as Screen}
+use Rattle.tk_screen.specs.Own.{Windowing}
 use Rattle.tk_app.proofs.Left.{laid_sound}
 use Rattle.tk_tree.specs.Own.{IsSound}
 use Rattle.tk_panel.specs.declared.job.Home.TheVariants.{Settle, Update, IdleTasks, LastLayout}
@@ -35,7 +35,7 @@ use Rattle.tk_app.proofs.Settled.{Quiet, quiet_settle}
 
 -- the windows lie where a layout puts them, where there is a main window
 abbrev IsLaidOut : Store → Panel → Type 0
-IsLaidOut store panel = is_closed panel ≡ false → IsSound panel.screen.tree → changes_due panel.screen store ≡ []
+IsLaidOut store panel = is_closed panel ≡ false → IsSound panel.windowing.tree → changes_due panel.windowing store ≡ []
 
 abbrev OnJob : Store → Panel → Option Job → Type 0
 OnJob store panel None = IsLaidOut store panel
@@ -54,7 +54,7 @@ by_layout store panel =
     let l : Panel = laid_out store panel in
     let there : Panel × List (List ℕ) = drained l.queue l in
     by there.1 there.0
-    (λ held sound. nothing_again store panel (laid_sound panel.screen store (subst (λ (screen : Screen). IsSound screen.tree) (drained_screen l.queue l ∙ laid_screen store panel) sound)))
+    (λ held sound. nothing_again store panel (laid_sound panel.windowing store (subst (λ (windowing : Windowing). IsSound windowing.tree) (drained_screen l.queue l ∙ laid_screen store panel) sound)))
   where
     by : (scripts : List (List ℕ)) (after : Panel) → IsLaidOut store after → On store (on_event Settle (idle_round Settle) after scripts)
     by [] after laid = by_round store (idle_ids after.timers.entries) after laid
@@ -99,10 +99,10 @@ by_job (Some (script ∷ scripts)) rest store panel is = tt
 by_job (Some []) rest store panel is = by_rest rest store panel is
 by_job None rest store panel is = by_rest rest store panel is
 
-ended_at : (store : Store) (there shows : Panel) (found : Option Job) (code : Code) (text : List ℕ) → OnJob store there found → there.screen ≡ shows.screen → looked_of found ≡ Ends code text → IsLaidOut store shows
+ended_at : (store : Store) (there shows : Panel) (found : Option Job) (code : Code) (text : List ℕ) → OnJob store there found → there.windowing ≡ shows.windowing → looked_of found ≡ Ends code text → IsLaidOut store shows
 ended_at store there shows None code text on same is held sound =
-    ap (λ (screen : Screen). changes_due screen store) (sym same)
-    ∙ on (ap (λ (screen : Screen). is_closed (record shows { screen = screen })) same ∙ held) (subst (λ (screen : Screen). IsSound screen.tree) (sym same) sound)
+    ap (λ (windowing : Windowing). changes_due windowing store) (sym same)
+    ∙ on (ap (λ (windowing : Windowing). is_closed (record shows { windowing = windowing })) same ∙ held) (subst (λ (windowing : Windowing). IsSound windowing.tree) (sym same) sound)
 ended_at store there shows (Some job) code text on same is held sound = absurd (cc)
 
 pub ends_laid_out : EndsLaidOut
@@ -111,7 +111,7 @@ ends_laid_out state after code text is sound held =
     let last : LookedLast course settles_last code text after = ends_looked course calls 200 settles_last keeps settling state after code text refl is in
     let there : Next = next last.last after.store last.before.panel in
     ended_at after.store there.0 after.shows.panel there.1 code text (by_job last.last.event last.last.rest after.store last.before.panel last.is_kind)
-    (ap (λ (p : Seen × Looked Job). p.0.panel.screen) last.found) (ap (λ (p : Seen × Looked Job). p.1) last.found) held sound
+    (ap (λ (p : Seen × Looked Job). p.0.panel.windowing) last.found) (ap (λ (p : Seen × Looked Job). p.1) last.found) held sound
 
 -- ── so nothing is left to do ──
 

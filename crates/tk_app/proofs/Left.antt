@@ -5,17 +5,17 @@ use Rattle.tcl_vars.specs.Store.{Store}
 use Rattle.tk_base.specs.Bag.{AllAbove, AllBelow, IsRising}
 use Rattle.tk_packer.specs.declared.changes.PlaceChange.{PlaceChange}
 use Rattle.tk_packer.specs.declared.changes.PlaceChange.TheVariants.{Unmap, Configure, Map}
-use Rattle.tk_tree.specs.Own.{HasOlderParent, HaveOlderParents, IsSound, Own as Tree, at_path, most_windows, window_at}
+use Rattle.tk_tree.specs.Own.{HasOlderParent, HaveOlderParents, IsSound, Tree, at_path, most_windows, window_at}
 use Rattle.tk_tree.specs.Window.{number_of}
 use Rattle.tk_tree.specs.declared.window.Window.{Window}
 use Rattle.tk_screen.proofs.Twice.{plain, plain_all, same_path}
-use Rattle.tk_screen.specs.Layout.{changes_due, laid_out}
-use Rattle.tk_screen.specs.Own.{Own}
+use Rattle.tk_screen.specs.Layout.{changes_due, laid_out_windowing}
+use Rattle.tk_screen.specs.Own.{Windowing}
 use Rattle.tk_screen.specs.Placing.{mapped_as, placed_at, with_changed, with_changes}
 
 -- there is a window of a path, or none, as before
-pub laid_path : (own : Own) (store : Store) (path : List ℕ) → is_none (at_path path (laid_out own store).tree) ≡ is_none (at_path path own.tree)
-unfolding laid_out
+pub laid_path : (own : Windowing) (store : Store) (path : List ℕ) → is_none (at_path path (laid_out_windowing own store).tree) ≡ is_none (at_path path own.tree)
+unfolding laid_out_windowing
 laid_path own store path =
     let new : Tree = with_changes (changes_due own store) own.tree in
     sym (by (at_path path new)) ∙ ap is_none (same_path own.tree new (plain_all (changes_due own store) own.tree) path) ∙ by (at_path path own.tree)
@@ -67,8 +67,8 @@ same_next [] tree = refl
 same_next (change ∷ changes) tree = same_next changes (with_changed change tree) ∙ changed_next change tree
 
 -- what is sound with the windows laid out was sound before
-pub laid_sound : (own : Own) (store : Store) → IsSound (laid_out own store).tree → IsSound own.tree
-unfolding laid_out
+pub laid_sound : (own : Windowing) (store : Store) → IsSound (laid_out_windowing own store).tree → IsSound own.tree
+unfolding laid_out_windowing
 laid_sound own store sound =
     let new : Tree = with_changes (changes_due own store) own.tree in
     let alike : map plain new.windows ≡ map plain own.tree.windows = plain_all (changes_due own store) own.tree in

@@ -7,12 +7,12 @@ use Rattle.tcl_control.specs.declared.code.Code.TheVariants.{Normal, Error, Retu
 use Rattle.tcl_interp.specs.Evaluation.{State, Outcome, Ended, OutOfSteps, and_then, stepped}
 use Rattle.tcl_interp.specs.Scripts.{out_of_global, script_meaning}
 use Rattle.tcl_interp.proofs.Bounds.{Within, within_run_at, within_script}
-use Rattle.tk_after.specs.declared.entry.Entry.{Entry}
+use Rattle.tk_after.specs.declared.waiting.WaitingScript.{WaitingScript}
 use Rattle.tk_after.specs.Timers.{entry_with, first_due, idle_ids}
 use Rattle.tk_packer.specs.declared.changes.PlaceChange.{PlaceChange}
 use Rattle.tk_sequences.specs.declared.event.Event.{Event}
 use Rattle.tk_screen.specs.Layout.{changes_due}
-use Rattle.tk_screen.specs.Own.{Own as Screen}
+use Rattle.tk_screen.specs.Own.{Windowing}
 use Rattle.tk_tree.specs.Own.{IsSound}
 use Rattle.tk_panel.specs.declared.job.Home.TheVariants.{Update}
 use Rattle.tk_panel.specs.declared.transcript.Stream.TheVariants.{Err as Errors}
@@ -24,8 +24,8 @@ use Rattle.tk_panel.specs.Settle.{is_closed, with_queue}
 use Rattle.tk_panel.proofs.Choices.{chosen_queue}
 use Rattle.tk_commands.specs.Course.{with_end}
 use Rattle.tk_commands.specs.Moment.{settling as settling_to}
-use Rattle.tk_app.specs.Dispatch.{Continuation, after_bound, global_meaning, bound_meaning, shown}
-use Rattle.tk_app.specs.Items.{entry_meaning, entry_taken, idle_meaning, item_meaning, on_idle, on_layout, on_queue, on_timer, round_meaning}
+use Rattle.tk_app.specs.Dispatch.{Continuation, after_bound, global_meaning, bound_meaning, with_shown}
+use Rattle.tk_app.specs.Items.{waiting_meaning, waiting_taken, idle_meaning, item_meaning, on_idle, on_layout, on_queue, on_timer, round_meaning}
 use Rattle.tk_app.specs.Jobs.{meaning}
 use Rattle.tk_app.specs.Outside.{outside}
 use Rattle.tk_app.specs.Seen.{Seen}
@@ -49,8 +49,8 @@ step_then : (steps : ℕ) (state : State Seen) (f g : Continuation) → ((left :
 step_then zero state f g same = refl
 step_then (suc left) state f g same = same left refl
 
-sound_screen : (old new : Panel) → new.screen ≡ old.screen → IsSound old.screen.tree → IsSound new.screen.tree
-sound_screen old new same sound = subst (λ (screen : Screen). IsSound screen.tree) (sym same) sound
+sound_screen : (old new : Panel) → new.windowing ≡ old.windowing → IsSound old.windowing.tree → IsSound new.windowing.tree
+sound_screen old new same sound = subst (λ (windowing : Windowing). IsSound windowing.tree) (sym same) sound
 
 module _ (room : ℕ) where
   -- what comes behind a script at global level, which leaves windows sound and no more steps
@@ -68,7 +68,7 @@ module _ (room : ℕ) where
   bound_ends : (n : ℕ) (others more f g : Continuation) → Agree n others more → Agree n f g → (left : State Seen) (code : Code) (text : List ℕ) → IsSoundIn left → left.steps ≤ n
       → after_bound room others f left code text ≡ after_bound room more g left code text
   bound_ends n others more f g rest same left Normal text sound few = rest left sound few
-  bound_ends n others more f g rest same left Error text sound few = same (shown (with_line Errors text left.shows.panel) left) sound few
+  bound_ends n others more f g rest same left Error text sound few = same (with_shown (with_line Errors text left.shows.panel) left) sound few
   bound_ends n others more f g rest same left (Return code) text sound few = rest left sound few
   bound_ends n others more f g rest same left Break text sound few = same left sound few
   bound_ends n others more f g rest same left Continue text sound few = rest left sound few
@@ -89,27 +89,27 @@ module _ (room : ℕ) where
   bound_same n f g same [] state sound few = same state sound few
   bound_same n f g same (script ∷ scripts) state sound few = bound_step n f g same script scripts (bound_same n f g same scripts) state sound (omega (arith, few))
 
-  entry_same : (n : ℕ) (f g : Continuation) → Agree n f g → (id : ℕ) (script : List ℕ) → Agree n (entry_meaning room id script f) (entry_meaning room id script g)
+  entry_same : (n : ℕ) (f g : Continuation) → Agree n f g → (id : ℕ) (script : List ℕ) → Agree n (waiting_meaning room id script f) (waiting_meaning room id script g)
   entry_same n f g same id script state sound few =
-      ran_same script (shown (entry_taken id state.shows.panel) state)
-      (λ left code text. f (shown (with_end (out_of_global code) text left.shows.panel) left))
-      (λ left code text. g (shown (with_end (out_of_global code) text left.shows.panel) left)) sound
+      ran_same script (with_shown (waiting_taken id state.shows.panel) state)
+      (λ left code text. f (with_shown (with_end (out_of_global code) text left.shows.panel) left))
+      (λ left code text. g (with_shown (with_end (out_of_global code) text left.shows.panel) left)) sound
       (λ left code text kept fewer.
-      same (shown (with_end (out_of_global code) text left.shows.panel) left)
+      same (with_shown (with_end (out_of_global code) text left.shows.panel) left)
       (sound_screen left.shows.panel (with_end (out_of_global code) text left.shows.panel) (end_screen (out_of_global code) text left.shows.panel) kept) (omega (arith, fewer, few)))
 
   -- an entry, once its step is taken
   entry_step : (n : ℕ) (f g : Continuation) → Agree n f g → (id : ℕ) (script : List ℕ) (state : State Seen) → IsSoundIn state → state.steps ≤ suc n
-      → stepped state.steps state (entry_meaning room id script f) ≡ stepped state.steps state (entry_meaning room id script g)
+      → stepped state.steps state (waiting_meaning room id script f) ≡ stepped state.steps state (waiting_meaning room id script g)
   entry_step n f g same id script state sound few =
-      step_then state.steps state (entry_meaning room id script f) (entry_meaning room id script g)
+      step_then state.steps state (waiting_meaning room id script f) (waiting_meaning room id script g)
       (λ steps is. entry_same n f g same id script (record state { steps = steps }) sound (omega (arith, is, few)))
 
   round_same : (n : ℕ) (f g : Continuation) → Agree n f g → (ids : List ℕ) → Agree n (round_meaning room ids f) (round_meaning room ids g)
   round_same n f g same [] state sound few = same state sound few
   round_same n f g same (id ∷ ids) state sound few = by (entry_with id state.shows.panel.timers.entries) (round_same n f g same ids)
     where
-      by : (entry : Option Entry) → Agree n (round_meaning room ids f) (round_meaning room ids g)
+      by : (entry : Option WaitingScript) → Agree n (round_meaning room ids f) (round_meaning room ids g)
           → idle_meaning room id entry (round_meaning room ids f) state ≡ idle_meaning room id entry (round_meaning room ids g) state
       by None rest = rest state sound few
       by (Some entry) rest = entry_step n (round_meaning room ids f) (round_meaning room ids g) rest id entry.script state sound (omega (arith, few))
@@ -131,9 +131,9 @@ module _ (room : ℕ) where
     with_less state one other same = step_then state.steps state one other same
 
     entry_less : (id : ℕ) (script : List ℕ) (state : State Seen) (one other : Continuation) → ((left : ℕ) → state.steps ≡ suc left → Agree left one other) → IsSoundIn state
-        → stepped state.steps state (entry_meaning room id script one) ≡ stepped state.steps state (entry_meaning room id script other)
+        → stepped state.steps state (waiting_meaning room id script one) ≡ stepped state.steps state (waiting_meaning room id script other)
     entry_less id script state one other less sound =
-        with_less state (entry_meaning room id script one) (entry_meaning room id script other)
+        with_less state (waiting_meaning room id script one) (waiting_meaning room id script other)
         (λ left is. entry_same left one other (less left is) id script (record state { steps = left }) sound (omega arith))
 
     bound_less : (script : List ℕ) (scripts : List (List ℕ)) (state : State Seen) → Less f g state → IsSoundIn state
@@ -152,21 +152,21 @@ module _ (room : ℕ) where
     idle_less [] state is sound less = refl
     idle_less (id ∷ ids) state is sound less = by (entry_with id state.shows.panel.timers.entries) (idle_there room id ids state.shows.panel.timers.entries is)
       where
-        by : (entry : Option Entry) → is_some entry ≡ true → idle_meaning room id entry (round_meaning room ids f) state ≡ idle_meaning room id entry (round_meaning room ids g) state
+        by : (entry : Option WaitingScript) → is_some entry ≡ true → idle_meaning room id entry (round_meaning room ids f) state ≡ idle_meaning room id entry (round_meaning room ids g) state
         by None there = absurd (cc)
         by (Some entry) there =
             entry_less id entry.script state (round_meaning room ids f) (round_meaning room ids g) (λ left is. round_same left f g (less left is) ids) sound
 
-    timer_less : (first : Option Entry) (state : State Seen) → IsSoundIn state → Less f g state
-        → on_layout room (changes_due state.shows.panel.screen state.store) f state ≡ on_layout room (changes_due state.shows.panel.screen state.store) g state
+    timer_less : (first : Option WaitingScript) (state : State Seen) → IsSoundIn state → Less f g state
+        → on_layout room (changes_due state.shows.panel.windowing state.store) f state ≡ on_layout room (changes_due state.shows.panel.windowing state.store) g state
         → on_timer room first f state ≡ on_timer room first g state
     timer_less None state sound less layout = layout
     timer_less (Some entry) state sound less layout = entry_less entry.id entry.script state f g less sound
 
     -- what a layout finds hangs on the screen alone
-    module _ (Ready : State Seen → Type 0) (stays : (state : State Seen) (panel : Panel) → panel.screen ≡ state.shows.panel.screen → Ready state → Ready (shown panel state))
+    module _ (Ready : State Seen → Type 0) (stays : (state : State Seen) (panel : Panel) → panel.windowing ≡ state.shows.panel.windowing → Ready state → Ready (with_shown panel state))
         (lays : (state : State Seen) → Ready state → IsSoundIn state → Less f g state
-        → on_layout room (changes_due state.shows.panel.screen state.store) f state ≡ on_layout room (changes_due state.shows.panel.screen state.store) g state) where
+        → on_layout room (changes_due state.shows.panel.windowing state.store) f state ≡ on_layout room (changes_due state.shows.panel.windowing state.store) g state) where
       solved : (queue : List Event) (state : State Seen) → state.shows.panel.queue ≡ queue → Ready state → IsSoundIn state → Less f g state → f state ≡ g state
       solved [] state is ready sound less =
           meets state sound
@@ -178,39 +178,39 @@ module _ (room : ℕ) where
           let there : Panel × List (List ℕ) = chosen event taken in
           meets state sound
           (ap (λ queue. on_queue room queue f state) is
-          ∙ by there.1 there.0 (chosen_screen event taken) (solved events (shown there.0 state) (chosen_queue event taken))
+          ∙ by there.1 there.0 (chosen_screen event taken) (solved events (with_shown there.0 state) (chosen_queue event taken))
           ∙ sym (ap (λ queue. on_queue room queue g state) is))
         where
-          by : (scripts : List (List ℕ)) (after : Panel) → after.screen ≡ state.shows.panel.screen
-              → (Ready (shown after state) → IsSoundIn (shown after state) → Less f g (shown after state) → f (shown after state) ≡ g (shown after state))
-              → bound_meaning room scripts f (shown after state) ≡ bound_meaning room scripts g (shown after state)
+          by : (scripts : List (List ℕ)) (after : Panel) → after.windowing ≡ state.shows.panel.windowing
+              → (Ready (with_shown after state) → IsSoundIn (with_shown after state) → Less f g (with_shown after state) → f (with_shown after state) ≡ g (with_shown after state))
+              → bound_meaning room scripts f (with_shown after state) ≡ bound_meaning room scripts g (with_shown after state)
           by [] after same rest = rest (stays state after same ready) (sound_screen state.shows.panel after same sound) less
-          by (script ∷ scripts) after same rest = bound_less script scripts (shown after state) less (sound_screen state.shows.panel after same sound)
+          by (script ∷ scripts) after same rest = bound_less script scripts (with_shown after state) less (sound_screen state.shows.panel after same sound)
 
     -- nothing is to be laid out
     abbrev IsLaid : State Seen → Type 0
-    IsLaid state = changes_due state.shows.panel.screen state.store ≡ []
+    IsLaid state = changes_due state.shows.panel.windowing state.store ≡ []
 
-    laid_stays : (state : State Seen) (panel : Panel) → panel.screen ≡ state.shows.panel.screen → IsLaid state → IsLaid (shown panel state)
-    laid_stays state panel same is = ap (λ (screen : Screen). changes_due screen state.store) same ∙ is
+    laid_stays : (state : State Seen) (panel : Panel) → panel.windowing ≡ state.shows.panel.windowing → IsLaid state → IsLaid (with_shown panel state)
+    laid_stays state panel same is = ap (λ (windowing : Windowing). changes_due windowing state.store) same ∙ is
 
     laid_lays : (state : State Seen) → IsLaid state → IsSoundIn state → Less f g state
-        → on_layout room (changes_due state.shows.panel.screen state.store) f state ≡ on_layout room (changes_due state.shows.panel.screen state.store) g state
+        → on_layout room (changes_due state.shows.panel.windowing state.store) f state ≡ on_layout room (changes_due state.shows.panel.windowing state.store) g state
     laid_lays state is sound less =
         ap (λ changes. on_layout room changes f state) is
         ∙ idle_less (idle_ids state.shows.panel.timers.entries) state refl sound less
         ∙ sym (ap (λ changes. on_layout room changes g state) is)
 
     any_lays : (state : State Seen) → Unit {0} → IsSoundIn state → Less f g state
-        → on_layout room (changes_due state.shows.panel.screen state.store) f state ≡ on_layout room (changes_due state.shows.panel.screen state.store) g state
-    any_lays state ready sound less = by (changes_due state.shows.panel.screen state.store)
+        → on_layout room (changes_due state.shows.panel.windowing state.store) f state ≡ on_layout room (changes_due state.shows.panel.windowing state.store) g state
+    any_lays state ready sound less = by (changes_due state.shows.panel.windowing state.store)
       where
         by : (changes : List PlaceChange) → on_layout room changes f state ≡ on_layout room changes g state
         by [] = idle_less (idle_ids state.shows.panel.timers.entries) state refl sound less
         by (change ∷ changes) =
             let panel : Panel = laid_out state.store state.shows.panel in
-            solved IsLaid laid_stays laid_lays panel.queue (shown panel state) refl
-            (ap (λ (screen : Screen). changes_due screen state.store) (laid_screen state.store state.shows.panel) ∙ laid_twice state.shows.panel.screen state.store sound)
+            solved IsLaid laid_stays laid_lays panel.queue (with_shown panel state) refl
+            (ap (λ (windowing : Windowing). changes_due windowing state.store) (laid_screen state.store state.shows.panel) ∙ laid_twice state.shows.panel.windowing state.store sound)
             (laid StaysSound sound_acts state.store state.shows.panel sound) less
 
     agrees : (n : ℕ) → Agree n f g

@@ -5,8 +5,8 @@ use Rattle.tcl_vars.specs.Store.{Store}
 use Rattle.tk_dispatch.specs.Dispatch.{Chosen}
 use Rattle.tk_packer.specs.declared.changes.PlaceChange.{PlaceChange}
 use Rattle.tk_sequences.specs.declared.event.Event.{Event}
-use Rattle.tk_screen.specs.Layout.{changes_due, laid_out as laid_out_screen}
-use Rattle.tk_screen.specs.Own.{Own as Screen}
+use Rattle.tk_screen.specs.Layout.{changes_due, laid_out_windowing}
+use Rattle.tk_screen.specs.Own.{Windowing}
 use Rattle.tk_screen.proofs.Settled.{nothing_laid}
 use Rattle.tk_app.proofs.Left.{laid_path}
 use Rattle.tk_screen.proofs.Twice.{laid_twice}
@@ -17,7 +17,7 @@ use Rattle.tk_panel.specs.declared.job.Home.TheVariants.{Settle, Update, IdleTas
 use Rattle.tk_panel.specs.declared.job.Job.{Job}
 use Rattle.tk_panel.specs.declared.job.Rest.{Rest}
 use Rattle.tk_panel.specs.declared.job.Rest.TheVariants.{Ends as NoRest, Destroys, Rounds}
-use Rattle.tk_panel.specs.Changes.{laid_out, number_of, queued_at, with_changes}
+use Rattle.tk_panel.specs.Changes.{laid_out, number_of, queued_at, with_events_of}
 use Rattle.tk_panel.specs.Choice.{chosen, chosen_at, on_scripts, scripts_of}
 use Rattle.tk_panel.specs.Destroy.{Doomed, destroy_at, destroy_chosen, destroy_event, destroys, doomed_by, doomed_next, marked, next_doomed, on_doomed, or_removed, removed, removed_at, without_last, without_path}
 use Rattle.tk_panel.specs.Next.{next, next_event, next_rest}
@@ -31,79 +31,79 @@ use Rattle.tk_after.specs.Timers.{idle_ids}
 -- the moment, and what is on the screen
 record LeavesScreen (old new : Panel) : Type 0 where
   pub moment : new.moment ≡ old.moment
-  pub screen : new.screen ≡ old.screen
+  pub windowing : new.windowing ≡ old.windowing
 
 by_scripts : (event : Event) (panel : Panel) (scripts : Chosen) → LeavesScreen panel (on_scripts event panel scripts).0
-by_scripts event panel (Ok scripts) = record { moment = refl; screen = refl }
-by_scripts event panel (Err text) = record { moment = refl; screen = refl }
+by_scripts event panel (Ok scripts) = record { moment = refl; windowing = refl }
+by_scripts event panel (Err text) = record { moment = refl; windowing = refl }
 
 by_window : (event : Event) (panel : Panel) (window : Option Window) → LeavesScreen panel (chosen_at event panel window).0
-by_window event panel None = record { moment = refl; screen = refl }
+by_window event panel None = record { moment = refl; windowing = refl }
 by_window event panel (Some window) = by_scripts event panel (scripts_of event panel)
 
 chosen_leaves : (event : Event) (panel : Panel) → LeavesScreen panel (chosen event panel).0
 unfolding chosen
-chosen_leaves event panel = by_window event panel (window_at event.number panel.screen.tree)
+chosen_leaves event panel = by_window event panel (window_at event.number panel.windowing.tree)
 
-pub chosen_screen : (event : Event) (panel : Panel) → (chosen event panel).0.screen ≡ panel.screen
-chosen_screen event panel = (chosen_leaves event panel).screen
+pub chosen_screen : (event : Event) (panel : Panel) → (chosen event panel).0.windowing ≡ panel.windowing
+chosen_screen event panel = (chosen_leaves event panel).windowing
 
 pub chosen_moment : (event : Event) (panel : Panel) → (chosen event panel).0.moment ≡ panel.moment
 chosen_moment event panel = (chosen_leaves event panel).moment
 
-pub drained_screen : (events : List Event) (panel : Panel) → (drained events panel).0.screen ≡ panel.screen
+pub drained_screen : (events : List Event) (panel : Panel) → (drained events panel).0.windowing ≡ panel.windowing
 unfolding drained
 drained_screen [] panel = refl
 drained_screen (event ∷ events) panel =
     let there : Panel × List (List ℕ) = chosen event (with_queue events panel) in
     by there.1 there.0 (chosen_screen event (with_queue events panel)) (drained_screen events there.0)
   where
-    by : (scripts : List (List ℕ)) (after : Panel) → after.screen ≡ panel.screen → (drained events after).0.screen ≡ after.screen → (or_later (drained events) after scripts).0.screen ≡ panel.screen
+    by : (scripts : List (List ℕ)) (after : Panel) → after.windowing ≡ panel.windowing → (drained events after).0.windowing ≡ after.windowing → (or_later (drained events) after scripts).0.windowing ≡ panel.windowing
     by [] after one later = later ∙ one
     by (script ∷ scripts) after one later = one
 
-queued_screen : (change : PlaceChange) (panel : Panel) (window : Option Window) → (queued_at change panel window).screen ≡ panel.screen
+queued_screen : (change : PlaceChange) (panel : Panel) (window : Option Window) → (queued_at change panel window).windowing ≡ panel.windowing
 queued_screen change panel None = refl
 queued_screen change panel (Some window) = refl
 
-changes_screen : (changes : List PlaceChange) (panel : Panel) → (with_changes changes panel).screen ≡ panel.screen
-unfolding with_changes
+changes_screen : (changes : List PlaceChange) (panel : Panel) → (with_events_of changes panel).windowing ≡ panel.windowing
+unfolding with_events_of
 changes_screen [] panel = refl
 changes_screen (change ∷ changes) panel =
-    let first : Panel = queued_at change panel (window_at (number_of change) panel.screen.tree) in
-    changes_screen changes first ∙ queued_screen change panel (window_at (number_of change) panel.screen.tree)
+    let first : Panel = queued_at change panel (window_at (number_of change) panel.windowing.tree) in
+    changes_screen changes first ∙ queued_screen change panel (window_at (number_of change) panel.windowing.tree)
 
-pub laid_screen : (store : Store) (panel : Panel) → (laid_out store panel).screen ≡ laid_out_screen panel.screen store
+pub laid_screen : (store : Store) (panel : Panel) → (laid_out store panel).windowing ≡ laid_out_windowing panel.windowing store
 unfolding laid_out
-laid_screen store panel = changes_screen (changes_due panel.screen store) (record panel { screen = laid_out_screen panel.screen store })
+laid_screen store panel = changes_screen (changes_due panel.windowing store) (record panel { windowing = laid_out_windowing panel.windowing store })
 
 -- a layout that changes nothing leaves all as it is
-pub nothing_to_lay : (store : Store) (panel : Panel) → changes_due panel.screen store ≡ [] → laid_out store panel ≡ panel
-unfolding laid_out with_changes
+pub nothing_to_lay : (store : Store) (panel : Panel) → changes_due panel.windowing store ≡ [] → laid_out store panel ≡ panel
+unfolding laid_out with_events_of
 nothing_to_lay store panel none =
-    ap (λ changes. with_changes changes (record panel { screen = laid_out_screen panel.screen store })) none
-    ∙ ap (λ (screen : Screen). record panel { screen = screen }) (nothing_laid panel.screen store none)
+    ap (λ changes. with_events_of changes (record panel { windowing = laid_out_windowing panel.windowing store })) none
+    ∙ ap (λ (windowing : Windowing). record panel { windowing = windowing }) (nothing_laid panel.windowing store none)
 
 -- where windows were laid out, and events have come that had no scripts, a layout changes nothing
-pub nothing_again : (store : Store) (panel : Panel) → IsSound panel.screen.tree
-    → (let l : Panel = laid_out store panel in changes_due (drained l.queue l).0.screen store ≡ [])
+pub nothing_again : (store : Store) (panel : Panel) → IsSound panel.windowing.tree
+    → (let l : Panel = laid_out store panel in changes_due (drained l.queue l).0.windowing store ≡ [])
 nothing_again store panel sound =
     let l : Panel = laid_out store panel in
-    ap (λ (screen : Screen). changes_due screen store) (drained_screen l.queue l ∙ laid_screen store panel) ∙ laid_twice panel.screen store sound
+    ap (λ (windowing : Windowing). changes_due windowing store) (drained_screen l.queue l ∙ laid_screen store panel) ∙ laid_twice panel.windowing store sound
 
 -- ── whether there is a main window ──
 
-pub same_closed : (old new : Panel) → new.screen ≡ old.screen → is_closed new ≡ is_closed old
-same_closed old new same = ap (λ (screen : Screen). is_none (at_path (codes ".") screen.tree)) same
+pub same_closed : (old new : Panel) → new.windowing ≡ old.windowing → is_closed new ≡ is_closed old
+same_closed old new same = ap (λ (windowing : Windowing). is_none (at_path (codes ".") windowing.tree)) same
 
 pub laid_closed : (store : Store) (panel : Panel) → is_closed (laid_out store panel) ≡ is_closed panel
-laid_closed store panel = ap (λ (screen : Screen). is_none (at_path (codes ".") screen.tree)) (laid_screen store panel) ∙ laid_path panel.screen store (codes ".")
+laid_closed store panel = ap (λ (windowing : Windowing). is_none (at_path (codes ".") windowing.tree)) (laid_screen store panel) ∙ laid_path panel.windowing store (codes ".")
 
 -- ── the moment ──
 
 removed_moment : (number : ℕ) (panel : Panel) → (removed number panel).moment ≡ panel.moment
 unfolding removed
-removed_moment number panel = by (window_at number panel.screen.tree)
+removed_moment number panel = by (window_at number panel.windowing.tree)
   where
     leaf : (window : Window) (b : Bool) → (cond b (without_path number window.path panel) panel).moment ≡ panel.moment
     leaf window true = refl
@@ -111,7 +111,7 @@ removed_moment number panel = by (window_at number panel.screen.tree)
 
     by : (window : Option Window) → (removed_at number panel window).moment ≡ panel.moment
     by None = refl
-    by (Some window) = leaf window (length (child_numbers number panel.screen.tree.windows) == 0)
+    by (Some window) = leaf window (length (child_numbers number panel.windowing.tree.windows) == 0)
 
 destroy_moment : (panel : Panel) (window : Option Window) → (destroy_at panel window).0.moment ≡ panel.moment
 destroy_moment panel None = refl
@@ -122,7 +122,7 @@ unfolding next_doomed
 doomed_moment [] panel = refl
 doomed_moment (number ∷ numbers) panel =
     let there : Panel × List (List ℕ) = destroy_chosen number panel in
-    by there.1 there.0 (destroy_moment panel (window_at number panel.screen.tree)) (doomed_moment numbers (removed number there.0))
+    by there.1 there.0 (destroy_moment panel (window_at number panel.windowing.tree)) (doomed_moment numbers (removed number there.0))
   where
     by : (scripts : List (List ℕ)) (after : Panel) → after.moment ≡ panel.moment → (next_doomed numbers (removed number after)).panel.moment ≡ (removed number after).moment
         → (or_removed number numbers (next_doomed numbers) after scripts).panel.moment ≡ panel.moment

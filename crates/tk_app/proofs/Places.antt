@@ -8,10 +8,10 @@ use Rattle.tk_packer.specs.declared.packed.Packed.{Packed}
 use Rattle.tk_packer.specs.declared.request.Request.{Request}
 use Rattle.tk_packer.specs.declared.shape.Shape.{Shape}
 use Rattle.tk_packer.specs.Asked.{Sizes, requests_of, size_asked, sized, sizes_asked, with_asked}
-use Rattle.tk_packer.specs.Layout.{Places, cavity_of, first_place, give, given_after, moved, placed, whole_of, with_place}
+use Rattle.tk_packer.specs.Layout.{Places, cavity_of, first_place, give, given_after, counted_outside, placed, whole_of, with_place}
 use Rattle.tk_packer.specs.Packs.{slaves_of}
 use Rattle.tk_packer.specs.Parcels.{arrangement}
-use Rattle.tk_app.specs.Places.{LiesByMasters, StandInOrder, place_in, place_of}
+use Rattle.tk_app.specs.Places.{LiesByMasters, StandInOrder, place_by_master, place_by_number}
 
 it_is : {X : Type 0} (x y : X) → Some x ≡ Some y → x ≡ y
 it_is {X = X} x y is = ap (λ (o : Option X). unwrap_or o x) is
@@ -35,20 +35,20 @@ given_other border (p ∷ ps) (place ∷ places) given n none =
 given_at : (border : ℕ) (slaves : List Packed) (places : List (Option Rect)) (given : Places) (k : ℕ) (p : Packed) → slice_get slaves k ≡ Some p
     → ((i j : ℕ) (q r : Packed) → slice_get slaves i ≡ Some q → slice_get slaves j ≡ Some r → q.number ≡ r.number → i ≡ j)
     → lookup (nat_eq p.number) given ≡ None
-    → lookup (nat_eq p.number) (give border slaves places given) ≡ option_map (moved border) (option_and_then (λ place. place) (slice_get places k))
+    → lookup (nat_eq p.number) (give border slaves places given) ≡ option_map (counted_outside border) (option_and_then (λ place. place) (slice_get places k))
 unfolding give
 given_at border [] places given k p is apart none = absurd (cc)
 given_at border (q ∷ qs) [] given k p is apart none = none
 given_at border (q ∷ qs) (place ∷ places) given zero p is apart none =
     subst (λ (x : Packed). lookup (nat_eq x.number) given ≡ None
-    → lookup (nat_eq x.number) (give border qs places (with_place border q.number place given)) ≡ option_map (moved border) place)
+    → lookup (nat_eq x.number) (give border qs places (with_place border q.number place given)) ≡ option_map (counted_outside border) place)
     (it_is q p is) (λ free. given_other border qs places (with_place border q.number place given) q.number (λ j r there same. absurd (zero_suc j (apart zero (suc j) q r refl there (sym same)))) ∙ here place free)
     none
   where
     zero_suc : (j : ℕ) → zero ≡ suc j → ⊥
     zero_suc j wrong = omega (arith, wrong)
 
-    here : (place : Option Rect) → lookup (nat_eq q.number) given ≡ None → lookup (nat_eq q.number) (with_place border q.number place given) ≡ option_map (moved border) place
+    here : (place : Option Rect) → lookup (nat_eq q.number) given ≡ None → lookup (nat_eq q.number) (with_place border q.number place given) ≡ option_map (counted_outside border) place
     here None free = free
     here (Some rect) free = rw (eq-eqb q.number q.number refl) refl
 given_at border (q ∷ qs) (place ∷ places) given (suc k) p is apart none =
@@ -126,11 +126,11 @@ module _ (slaves : ℕ → List Packed) where
     -- what isn't packed has what is given already
     place_kept : (shapes : List Shape) (given : Places) (j : ℕ) (shape : Shape) → slice_get shapes j ≡ Some shape
         → ((i k : ℕ) (master : Shape) (packed : Packed) → slice_get shapes i ≡ Some master → slice_get (slaves master.number) k ≡ Some packed → packed.number ≢ shape.number)
-        → place_of shapes (placed slaves sizes given shapes) shape.number ≡ lookup (nat_eq shape.number) given
+        → place_by_number shapes (placed slaves sizes given shapes) shape.number ≡ lookup (nat_eq shape.number) given
     unfolding placed
     place_kept [] given j shape is none = absurd (cc)
     place_kept (s ∷ ss) given zero shape is none =
-        subst (λ (x : Shape). place_of (s ∷ ss) (placed slaves sizes given (s ∷ ss)) x.number ≡ lookup (nat_eq x.number) given) (it_is s shape is)
+        subst (λ (x : Shape). place_by_number (s ∷ ss) (placed slaves sizes given (s ∷ ss)) x.number ≡ lookup (nat_eq x.number) given) (it_is s shape is)
         (rw (eq-eqb s.number s.number refl) refl)
     place_kept (s ∷ ss) given (suc j) shape is none =
         by (s.number == shape.number) refl
@@ -141,8 +141,8 @@ module _ (slaves : ℕ → List Packed) where
         head = lookup (nat_eq s.number) given
 
         by : (b : Bool) → (s.number == shape.number) ≡ b
-            → place_of ss (placed slaves sizes (given_after slaves sizes s head given) ss) shape.number ≡ lookup (nat_eq shape.number) given
-            → (if s.number == shape.number then head else place_of ss (placed slaves sizes (given_after slaves sizes s head given) ss) shape.number) ≡ lookup (nat_eq shape.number) given
+            → place_by_number ss (placed slaves sizes (given_after slaves sizes s head given) ss) shape.number ≡ lookup (nat_eq shape.number) given
+            → (if s.number == shape.number then head else place_by_number ss (placed slaves sizes (given_after slaves sizes s head given) ss) shape.number) ≡ lookup (nat_eq shape.number) given
         by true same later = rw same (ap (λ n. lookup (nat_eq n) given) (eqb-true s.number shape.number same))
         by false differ later = rw differ later
 
@@ -161,16 +161,16 @@ module _ (slaves : ℕ → List Packed) where
 
     place_given : (shapes : List Shape) (given : Places) (i j k : ℕ) (master slave : Shape) (packed : Packed) → StandInOrder slaves shapes → AreFree shapes given
         → slice_get shapes i ≡ Some master → slice_get shapes j ≡ Some slave → slice_get (slaves master.number) k ≡ Some packed → packed.number ≡ slave.number
-        → place_of shapes (placed slaves sizes given shapes) slave.number
-        ≡ place_in master (requests_of sizes (slaves master.number)) k (place_of shapes (placed slaves sizes given shapes) master.number)
+        → place_by_number shapes (placed slaves sizes given shapes) slave.number
+        ≡ place_by_master master (requests_of sizes (slaves master.number)) k (place_by_number shapes (placed slaves sizes given shapes) master.number)
     unfolding placed AreFree given_after
     place_given [] given i j k master slave packed order free at_i at_j at_k same = absurd (cc)
     place_given (s ∷ ss) given i zero k master slave packed order free at_i at_j at_k same =
         (let wrong = order.behind i zero k master slave packed at_i at_j at_k same in absurd (omega (arith, wrong)))
     place_given (s ∷ ss) given zero (suc j) k master slave packed order free at_i at_j at_k same =
         subst (λ (x : Shape). slice_get (slaves x.number) k ≡ Some packed
-        → place_of (s ∷ ss) (placed slaves sizes given (s ∷ ss)) slave.number
-        ≡ place_in x (requests_of sizes (slaves x.number)) k (place_of (s ∷ ss) (placed slaves sizes given (s ∷ ss)) x.number))
+        → place_by_number (s ∷ ss) (placed slaves sizes given (s ∷ ss)) slave.number
+        ≡ place_by_master x (requests_of sizes (slaves x.number)) k (place_by_number (s ∷ ss) (placed slaves sizes given (s ∷ ss)) x.number))
         (it_is s master at_i)
         (λ here. rw (ne_eqb s.number slave.number (first_apart s ss order j slave at_j), eq-eqb s.number s.number refl)
         (place_kept ss (given_after slaves sizes s head given) j slave at_j
@@ -183,7 +183,7 @@ module _ (slaves : ℕ → List Packed) where
         head = lookup (nat_eq s.number) given
 
         by : (place : Option Rect) → slice_get (slaves s.number) k ≡ Some packed
-            → lookup (nat_eq packed.number) (given_after slaves sizes s place given) ≡ place_in s (requests_of sizes (slaves s.number)) k place
+            → lookup (nat_eq packed.number) (given_after slaves sizes s place given) ≡ place_by_master s (requests_of sizes (slaves s.number)) k place
         by None here = free zero k s packed refl here
         by (Some rect) here =
             given_at s.border (slaves s.number) (arrangement (cavity_of rect s.border) (requests_of sizes (slaves s.number))) given k packed here
@@ -202,16 +202,16 @@ module _ (slaves : ℕ → List Packed) where
     first_is_free size (s ∷ ss) order = λ i k master packed at_i at_k. rw (ne_eqb packed.number s.number (first_free s ss order i k master packed at_i at_k)) refl
 
     main_fills : (size : ℕ × ℕ) (shapes : List Shape) (shape : Shape) → slice_get shapes zero ≡ Some shape
-        → place_of shapes (placed slaves sizes (first_place size shapes) shapes) shape.number ≡ Some (whole_of size)
+        → place_by_number shapes (placed slaves sizes (first_place size shapes) shapes) shape.number ≡ Some (whole_of size)
     unfolding placed
     main_fills size [] shape is = absurd (cc)
     main_fills size (s ∷ ss) shape is =
-        subst (λ (x : Shape). place_of (s ∷ ss) (placed slaves sizes (first_place size (s ∷ ss)) (s ∷ ss)) x.number ≡ Some (whole_of size)) (it_is s shape is)
+        subst (λ (x : Shape). place_by_number (s ∷ ss) (placed slaves sizes (first_place size (s ∷ ss)) (s ∷ ss)) x.number ≡ Some (whole_of size)) (it_is s shape is)
         (rw (eq-eqb s.number s.number refl) refl)
 
     loose_lies : (size : ℕ × ℕ) (shapes : List Shape) (j : ℕ) (shape : Shape) → StandInOrder slaves shapes → slice_get shapes (suc j) ≡ Some shape
         → ((i k : ℕ) (master : Shape) (packed : Packed) → slice_get shapes i ≡ Some master → slice_get (slaves master.number) k ≡ Some packed → packed.number ≢ shape.number)
-        → place_of shapes (placed slaves sizes (first_place size shapes) shapes) shape.number ≡ None
+        → place_by_number shapes (placed slaves sizes (first_place size shapes) shapes) shape.number ≡ None
     loose_lies size [] j shape order is none = absurd (cc)
     loose_lies size (s ∷ ss) j shape order is none =
         place_kept (s ∷ ss) (first_place size (s ∷ ss)) (suc j) shape is none

@@ -7,7 +7,7 @@ use Rattle.std.proofs.lemmas.List.{map-set, get_or-map, length-map, drop_more, d
 use Rattle.std.proofs.lemmas.List.Edits.{map_over_more}
 use Rattle.std.proofs.lemmas.List.Sums.{sum_by-set}
 use Rattle.tk_app.specs.declared.turns.Turn.{Turn}
-use Rattle.tk_app.specs.Rounds.{entry, round_from}
+use Rattle.tk_app.specs.Rounds.{one_turn, round_from}
 use Rattle.tk_app.proofs.Rounds.{after_round}
 
 module _ {P : Type 0} (done : P → P) (needs : P → ℕ) where
@@ -24,7 +24,7 @@ module _ {P : Type 0} (done : P → P) (needs : P → ℕ) where
   pub record TookTurn (slice slot : ℕ) (old new : P) (turns_old turns_new : List Turn) (again : Bool) : Type 0 where
     pub same : done new ≡ done old
     pub left : needs new ≡ needs old - slice
-    pub told : turns_new ≡ turns_old ++ entry slot (min slice (needs old))
+    pub told : turns_new ≡ turns_old ++ one_turn slot (min slice (needs old))
     pub last : again ≡ false → new ≡ done old
     pub more : again ≡ true → slice ≤ needs old
 
@@ -48,12 +48,12 @@ module _ {P : Type 0} (done : P → P) (needs : P → ℕ) where
         left = map-set needs parts i new ∙ ap (set ns i) turn.left ∙ map_over_more (λ n. n - slice) ns0 ns i (needs old) lt_ns0 reached.left here';
         told =
             let later : drop (i + 1) (map needs (set parts i new)) ≡ drop (i + 1) ns = ap (drop (i + 1)) (map-set needs parts i new) ∙ drop-set-lt (i + 1) ns i (needs new) (omega arith) in
-            let first : round_from i slice 0 (drop i ns) ≡ entry i (min slice (needs old)) ++ round_from (i + 1) slice 0 (drop (i + 1) ns) =
-            ap (round_from i slice 0) (drop_more ns i 0 lt_ns) ∙ ap (λ n. entry i (min slice (n - 0 * slice)) ++ round_from (i + 1) slice 0 (drop (i + 1) ns)) here
-            ∙ ap (λ n. entry i (min slice n) ++ round_from (i + 1) slice 0 (drop (i + 1) ns)) all in
+            let first : round_from i slice 0 (drop i ns) ≡ one_turn i (min slice (needs old)) ++ round_from (i + 1) slice 0 (drop (i + 1) ns) =
+            ap (round_from i slice 0) (drop_more ns i 0 lt_ns) ∙ ap (λ n. one_turn i (min slice (n - 0 * slice)) ++ round_from (i + 1) slice 0 (drop (i + 1) ns)) here
+            ∙ ap (λ n. one_turn i (min slice n) ++ round_from (i + 1) slice 0 (drop (i + 1) ns)) all in
             ap (λ ts. ts ++ round_from (i + 1) slice 0 (drop (i + 1) (map needs (set parts i new)))) turn.told
-            ∙ ap (λ xs. (turns ++ entry i (min slice (needs old))) ++ round_from (i + 1) slice 0 xs) later
-            ∙ append_assoc turns (entry i (min slice (needs old))) (round_from (i + 1) slice 0 (drop (i + 1) ns))
+            ∙ ap (λ xs. (turns ++ one_turn i (min slice (needs old))) ++ round_from (i + 1) slice 0 xs) later
+            ∙ append_assoc turns (one_turn i (min slice (needs old))) (round_from (i + 1) slice 0 (drop (i + 1) ns))
             ∙ ap (λ xs. turns ++ xs) (sym first)
             ∙ reached.told;
         last = lasts more again refl refl;

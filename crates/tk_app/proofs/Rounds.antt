@@ -4,7 +4,7 @@ use Rattle.std.specs.Prelude.{min, flat_map}
 use Rattle.std.specs.List.{range_with_len}
 use Rattle.std.proofs.lemmas.List.Sums.{sum_by-cons}
 use Rattle.tk_app.specs.declared.turns.Turn.{Turn}
-use Rattle.tk_app.specs.Rounds.{entry, round_from, round, turns_of}
+use Rattle.tk_app.specs.Rounds.{one_turn, round_from, round, turns_of}
 
 pub sum-cons : (n : ℕ) (ns : List ℕ) → sum (n ∷ ns) ≡ n + sum ns
 sum-cons n ns = sum_by-cons (λ (x : ℕ). x) n ns
@@ -22,8 +22,8 @@ later_round : (slot slice behind : ℕ) (needs : List ℕ) → round_from slot s
 later_round slot slice behind [] = refl
 later_round slot slice behind (need ∷ needs) =
     let here : need - (behind + 1) * slice ≡ (need - slice) - behind * slice = omega arith in
-    ap (λ n. entry slot (min slice n) ++ round_from (slot + 1) slice (behind + 1) needs) here
-    ∙ ap (λ ts. entry slot (min slice ((need - slice) - behind * slice)) ++ ts) (later_round (slot + 1) slice behind needs)
+    ap (λ n. one_turn slot (min slice n) ++ round_from (slot + 1) slice (behind + 1) needs) here
+    ∙ ap (λ ts. one_turn slot (min slice ((need - slice) - behind * slice)) ++ ts) (later_round (slot + 1) slice behind needs)
 
 later_rounds : (n slice behind : ℕ) (needs : List ℕ) → rounds n slice (behind + 1) needs ≡ rounds n slice behind (after_round slice needs)
 later_rounds zero slice behind needs = refl
@@ -59,7 +59,7 @@ round_none : (slot slice : ℕ) (needs : List ℕ) → sum needs ≡ 0 → round
 round_none slot slice [] none = refl
 round_none slot slice (need ∷ needs) none =
     let nothing : min slice (need - 0 * slice) ≡ 0 = omega (arith, sum-cons need needs, none) in
-    ap (λ k. entry slot k ++ round_from (slot + 1) slice 0 needs) nothing ∙ round_none (slot + 1) slice needs (omega (arith, sum-cons need needs, none))
+    ap (λ k. one_turn slot k ++ round_from (slot + 1) slice 0 needs) nothing ∙ round_none (slot + 1) slice needs (omega (arith, sum-cons need needs, none))
 
 rounds_none : (n slice : ℕ) (needs : List ℕ) → sum needs ≡ 0 → rounds n slice 0 needs ≡ []
 rounds_none zero slice needs none = refl

@@ -18,7 +18,7 @@ use Rattle.tcl_interp.specs.JobLaws.{EndsBelow, LookedLast}
 use Rattle.tcl_interp.proofs.Ends.{ends_looked, steps_fall}
 use Rattle.tcl_interp.specs.Leaves.{EndsWith, Leaves}
 use Rattle.tcl_interp.proofs.LeavesSame.{task_leaves}
-use Rattle.tk_after.specs.declared.entry.Entry.{Entry}
+use Rattle.tk_after.specs.declared.waiting.WaitingScript.{WaitingScript}
 use Rattle.tk_after.specs.Timers.{due_moments, idle_ids, least}
 use Rattle.tk_app.specs.Stages.{IsPast}
 use Rattle.tk_panel.specs.declared.job.Job.{Job}
@@ -112,7 +112,7 @@ not_due false true false idle settled held = refl
 not_due false true true idle settled held = cc
 not_due false false due idle settled held = cc
 
-due_past : (moment : ℕ) (entries : List Entry) → is_due moment entries ≡ false → IsPast moment (least (due_moments entries))
+due_past : (moment : ℕ) (entries : List WaitingScript) → is_due moment entries ≡ false → IsPast moment (least (due_moments entries))
 due_past moment entries early = by (least (due_moments entries)) refl
   where
     by : (o : Option ℕ) → least (due_moments entries) ≡ o → IsPast moment o
@@ -156,7 +156,7 @@ unfolding settle_meaning
 closed_ends state closed = goes_by_next 200 settling state ∙ ap (comes_next 200 state) (closed_next state.shows.panel state.store closed)
 
 module _ {M : Type 0} (answer : M → Meaning) where
-  due_now : (moment due : ℕ) (entries : List Entry) → least (due_moments entries) ≡ Some due → due ≤ moment → is_due moment entries ≡ true
+  due_now : (moment due : ℕ) (entries : List WaitingScript) → least (due_moments entries) ≡ Some due → due ≤ moment → is_due moment entries ≡ true
   due_now moment due entries next_is le = ap (λ o. option_map_or (λ due. nat_le due moment) o false) next_is ∙ le-leb due moment le
 
   fewer : (moment due : ℕ) (application : Application M) → least (due_moments application.timers.entries) ≡ Some due → due ≤ moment

@@ -5,7 +5,7 @@ use Rattle.std.proofs.lemmas.Bool.{eqb-true}
 use Rattle.std.proofs.lemmas.List.Elements.{filter-append}
 use Rattle.std.proofs.lemmas.List.Sums.{sum_by-append, sum_by-cons}
 use Rattle.tk_app.specs.declared.turns.Turn.{Turn}
-use Rattle.tk_app.specs.Rounds.{entry, round_from, round, turns_of}
+use Rattle.tk_app.specs.Rounds.{one_turn, round_from, round, turns_of}
 use Rattle.tk_app.specs.Shares.{steps_in, taken_by}
 use Rattle.tk_app.proofs.Rounds.{after_round, fewer_after, sum-cons, turns_none, turns_step}
 
@@ -15,17 +15,17 @@ steps_in-append ts us = sum_by-append (λ (turn : Turn). turn.steps) ts us
 pub taken_by-append : (slot : ℕ) (ts us : List Turn) → taken_by slot (ts ++ us) ≡ taken_by slot ts + taken_by slot us
 taken_by-append slot ts us = ap steps_in (filter-append (λ (turn : Turn). turn.slot == slot) ts us) ∙ steps_in-append (filter (λ (turn : Turn). turn.slot == slot) ts) (filter (λ (turn : Turn). turn.slot == slot) us)
 
-steps_in-entry : (slot n : ℕ) → steps_in (entry slot n) ≡ n
+steps_in-entry : (slot n : ℕ) → steps_in (one_turn slot n) ≡ n
 steps_in-entry slot zero = refl
 steps_in-entry slot (suc n) = omega arith
 
-pub taken_own : (slot n : ℕ) → taken_by slot (entry slot n) ≡ n
+pub taken_own : (slot n : ℕ) → taken_by slot (one_turn slot n) ≡ n
 taken_own slot zero = refl
 taken_own slot (suc n) =
     let one : 0 + suc n ≡ suc n = omega arith in
     ap (λ b. steps_in (cond b (record { slot = slot; steps = suc n } ∷ []) [])) (eq-eqb slot slot refl) ∙ one
 
-pub taken_other : (slot other n : ℕ) → other ≢ slot → taken_by slot (entry other n) ≡ 0
+pub taken_other : (slot other n : ℕ) → other ≢ slot → taken_by slot (one_turn other n) ≡ 0
 taken_other slot other zero differ = refl
 taken_other slot other (suc n) differ = by (nat_eq other slot) refl
   where
@@ -36,7 +36,7 @@ taken_other slot other (suc n) differ = by (nat_eq other slot) refl
 taken_below : (slot start slice : ℕ) (needs : List ℕ) → slot < start → taken_by slot (round_from start slice 0 needs) ≡ 0
 taken_below slot start slice [] below = refl
 taken_below slot start slice (need ∷ needs) below =
-    taken_by-append slot (entry start (min slice (need - 0 * slice))) (round_from (start + 1) slice 0 needs)
+    taken_by-append slot (one_turn start (min slice (need - 0 * slice))) (round_from (start + 1) slice 0 needs)
     ∙ omega (arith, taken_other slot start (min slice (need - 0 * slice)) (λ same. omega (arith, same, below)), taken_below slot (start + 1) slice needs (omega (arith, below)))
 
 taken_from : (slot start i slice : ℕ) (needs : List ℕ) → start + i ≡ slot → taken_by slot (round_from start slice 0 needs) ≡ min slice (slice_index needs i)
@@ -44,10 +44,10 @@ taken_from slot start i slice [] at = omega arith
 taken_from slot start zero slice (need ∷ needs) at =
     let same : start ≡ slot = omega (arith, at) in
     let all : min slice (need - 0 * slice) ≡ min slice need = omega arith in
-    taken_by-append slot (entry start (min slice (need - 0 * slice))) (round_from (start + 1) slice 0 needs)
-    ∙ omega (arith, ap (λ s. taken_by slot (entry s (min slice (need - 0 * slice)))) same, taken_own slot (min slice (need - 0 * slice)), all, taken_below slot (start + 1) slice needs (omega (arith, same)))
+    taken_by-append slot (one_turn start (min slice (need - 0 * slice))) (round_from (start + 1) slice 0 needs)
+    ∙ omega (arith, ap (λ s. taken_by slot (one_turn s (min slice (need - 0 * slice)))) same, taken_own slot (min slice (need - 0 * slice)), all, taken_below slot (start + 1) slice needs (omega (arith, same)))
 taken_from slot start (suc i) slice (need ∷ needs) at =
-    taken_by-append slot (entry start (min slice (need - 0 * slice))) (round_from (start + 1) slice 0 needs)
+    taken_by-append slot (one_turn start (min slice (need - 0 * slice))) (round_from (start + 1) slice 0 needs)
     ∙ omega (arith, taken_other slot start (min slice (need - 0 * slice)) (λ same. omega (arith, same, at)), taken_from slot (start + 1) i slice needs (omega (arith, at)))
 
 index_after : (slice i : ℕ) (needs : List ℕ) → slice_index (after_round slice needs) i ≡ slice_index needs i - slice
@@ -77,7 +77,7 @@ steps_round start slice (need ∷ needs) =
     let all : min slice (need - 0 * slice) + (need - slice) ≡ need = omega arith in
     omega (
       arith,
-      steps_in-append (entry start (min slice (need - 0 * slice))) (round_from (start + 1) slice 0 needs),
+      steps_in-append (one_turn start (min slice (need - 0 * slice))) (round_from (start + 1) slice 0 needs),
       steps_in-entry start (min slice (need - 0 * slice)),
       sum-cons (need - slice) (after_round slice needs),
       sum-cons need needs,

@@ -31,7 +31,7 @@ use Rattle.tk_tree.specs.Create.{first_of_two, parent_number, place_refusal, ref
 use Rattle.tk_tree.specs.declared.fault.WindowFault.{WindowFault}
 use Rattle.tk_tree.specs.declared.fault.WindowFault.TheVariants.{Exists, Full}
 use Rattle.tk_tree.specs.declared.window.Window.{Window}
-use Rattle.tk_tree.specs.Own.{HasOlderParent, HaveOlderParents, IsSound, Own as Tree, at_path, is_full, most_windows}
+use Rattle.tk_tree.specs.Own.{HasOlderParent, HaveOlderParents, IsSound, Tree, at_path, is_full, most_windows}
 use Rattle.tk_tree.specs.Path.{parent_and_name}
 use Rattle.tk_tree.specs.Window.{new_window, number_of}
 use Rattle.tk_tree.proofs.Lists.{below_more, find_below, parents_more, rising_more}
@@ -48,15 +48,15 @@ use Rattle.tk_app.proofs.Trees.{Acts, HoldsOfActs, KeepsPlace, both, ended_acts,
 module _ (Q : Tree → Tree → Type 0) (acts : HoldsOfActs Q) (first : Tree) where
   -- what has been done since the windows were these
   abbrev pub Since : Seen → Type 0
-  Since seen = Q first seen.panel.screen.tree
+  Since seen = Q first seen.panel.windowing.tree
 
-  on : (old new : Panel) → Q first old.screen.tree → Acts Q acts old new → Q first new.screen.tree
-  on old new since done = acts.after first old.screen.tree new.screen.tree since done
+  on : (old new : Panel) → Q first old.windowing.tree → Acts Q acts old new → Q first new.windowing.tree
+  on old new since done = acts.after first old.windowing.tree new.windowing.tree since done
 
   told_acts : (came : CommandOutcome) (panel : Panel) (store : Store) → Acts Q acts panel (outcome_told came panel store).shows
-  told_acts (outcome.Acts act) panel store = acts.same panel.screen.tree
+  told_acts (outcome.Acts act) panel store = acts.same panel.windowing.tree
   told_acts (outcome.Begins job) panel store = next_acts Q acts job store panel
-  told_acts outcome.Unknown panel store = acts.same panel.screen.tree
+  told_acts outcome.Unknown panel store = acts.same panel.windowing.tree
 
   called_acts : (panel : Panel) (store : Store) (words : List (List ℕ)) → Acts Q acts panel (panel_calls panel store words).shows
   unfolding panel_calls
@@ -265,7 +265,7 @@ ends_sound first (OutOfSteps state) sound kept = tt
 
 pub keeps_sound : KeepsSound
 keeps_sound room state sound =
-    let first : Tree = state.shows.panel.screen.tree in (
+    let first : Tree = state.shows.panel.windowing.tree in (
       (λ script. ends_sound first (global_meaning room script state) sound (global_since StaysSound sound_acts first room script state (λ same. same))),
       (λ job. ends_sound first (meaning room job state) sound (job_since StaysSound sound_acts first room job state (λ same. same))),
     )

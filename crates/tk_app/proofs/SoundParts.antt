@@ -7,7 +7,7 @@ use Rattle.tk_base.specs.declared.local_event.LocalEvent.{LocalEvent}
 use Rattle.tk_base.specs.declared.local_event.LocalKind.{LocalKind}
 use Rattle.tk_base.specs.declared.local_event.LocalKind.TheVariants as kinds
 use Rattle.tk_inputs.specs.Deliver.{arrived}
-use Rattle.tk_screen.specs.Own.{Own as Screen}
+use Rattle.tk_screen.specs.Own.{Windowing}
 use Rattle.tk_tree.specs.Own.{IsSound}
 use Rattle.tk_panel.specs.Deliver.{arrivals_in, delivered_panel, with_arrivals, with_rectangle}
 use Rattle.tk_panel.specs.Fresh.{fresh as fresh_panel}
@@ -36,9 +36,9 @@ start_sound script state sound =
     then_sound (global_meaning 200 script state) (after_script settle_meaning) ((keeps_sound 200 state sound).0 script)
     (λ left code text kept.
     (keeps_sound 200 (in_panel (with_end (out_of_global code) text left.shows.panel) left)
-    (subst (λ (screen : Screen). IsSound screen.tree) (sym (end_screen (out_of_global code) text left.shows.panel)) kept)).1 settling)
+    (subst (λ (windowing : Windowing). IsSound windowing.tree) (sym (end_screen (out_of_global code) text left.shows.panel)) kept)).1 settling)
 
-rectangle_tree : (kind : LocalKind) (panel : Panel) → (with_rectangle kind panel).screen.tree ≡ panel.screen.tree
+rectangle_tree : (kind : LocalKind) (panel : Panel) → (with_rectangle kind panel).windowing.tree ≡ panel.windowing.tree
 rectangle_tree (kinds.Size width height) panel = refl
 rectangle_tree (kinds.Position x y) panel = refl
 rectangle_tree (kinds.Press button x y) panel = refl
@@ -48,20 +48,20 @@ rectangle_tree (kinds.Keyup key) panel = refl
 rectangle_tree kinds.FocusIn panel = refl
 rectangle_tree kinds.FocusOut panel = refl
 
-first_sound : (name : List ℕ) (size : ℕ × ℕ) → IsSound (fresh_panel name size 0).screen.tree
+first_sound : (name : List ℕ) (size : ℕ × ℕ) → IsSound (fresh_panel name size 0).windowing.tree
 unfolding fresh_panel
 first_sound name size = record { rising = (tt, tt); below = (omega arith, tt); parents = (tt, tt); few = omega arith }
 
-given_tree : (event : LocalEvent) (panel : Panel) → (delivered_panel event panel).screen.tree ≡ panel.screen.tree
+given_tree : (event : LocalEvent) (panel : Panel) → (delivered_panel event panel).windowing.tree ≡ panel.windowing.tree
 unfolding delivered_panel
-given_tree event panel = rectangle_tree event.kind (with_arrivals (arrived event panel.screen.tree (arrivals_in panel)) panel)
+given_tree event panel = rectangle_tree event.kind (with_arrivals (arrived event panel.windowing.tree (arrivals_in panel)) panel)
 
 module _ {M : Type 0} (answer : M → Meaning) where
   outcome_sound : (o : Outcome Seen) (application : Application M) → EndsSound o → RunsSound (after_outcome o application)
   outcome_sound (Ended left code text) application kept = λ runs. kept
   outcome_sound (OutOfSteps left) application kept = λ runs. absurd (cc)
 
-  started_sound : (moment : ℕ) (script : List ℕ) (application : Application M) → IsSound application.screen.tree → RunsSound (started answer moment script application)
+  started_sound : (moment : ℕ) (script : List ℕ) (application : Application M) → IsSound application.windowing.tree → RunsSound (started answer moment script application)
   unfolding started_by
   started_sound moment script application sound =
       outcome_sound (start_meaning settle_meaning script (state_at answer moment application)) application (start_sound script (state_at answer moment application) sound)

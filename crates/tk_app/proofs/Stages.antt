@@ -5,7 +5,7 @@ use Rattle.std.proofs.lemmas.Bool.{leb-true, leb-false, eqb-true, eqb-false}
 use Rattle.std.proofs.lemmas.List.Sums.{sum_by-cons}
 use Rattle.tk_app.specs.declared.turns.Turn.{Turn}
 use Rattle.tk_app.specs.Passing.{brought}
-use Rattle.tk_app.specs.Stages.{IsPast, earlier, settled_if, settled_at, stage_at, first_due, turns_at}
+use Rattle.tk_app.specs.Stages.{IsPast, earlier, settled_if, settled_if_due_at, stage_at, first_moment_due, turns_at}
 use Rattle.tk_app.specs.Together.{passed_together, turns_to}
 use Rattle.tk_app.proofs.Passing.{pass_none, pass_late, pass_step, brought_none, brought_late, brought_step}
 
@@ -38,7 +38,7 @@ module _ {P : Type 0} (next_due : P → Option ℕ) (settled : ℕ → P → P) 
   at moment parts = stage_at next_due settled moment parts
 
   abbrev first : List P → Option ℕ
-  first parts = first_due next_due settled parts
+  first parts = first_moment_due next_due settled parts
 
   pub brought_past : (last : ℕ) (p : P) → IsPast last (next_due p) → to last p ≡ p
   brought_past last p past = by (next_due p) refl past
@@ -54,7 +54,7 @@ module _ {P : Type 0} (next_due : P → Option ℕ) (settled : ℕ → P → P) 
       ap (λ q. q ∷ map (to last) ps) (brought_past last p both.0) ∙ ap (λ qs. p ∷ qs) (all_past last ps both.1)
 
   -- A stage at a moment is one of its own to a part that is due then, and nothing to another: others' moments leave it where it is on its way.
-  pub brought_at : (last moment : ℕ) (p : P) → moment ≤ last → to last (settled_at next_due settled moment p) ≡ to last p
+  pub brought_at : (last moment : ℕ) (p : P) → moment ≤ last → to last (settled_if_due_at next_due settled moment p) ≡ to last p
   brought_at last moment p in_time = by (next_due p) refl
     where
       by_test : (due : ℕ) (b : Bool) → next_due p ≡ Some due → nat_eq due moment ≡ b → to last (if b then settled moment p else p) ≡ to last p
@@ -73,7 +73,7 @@ module _ {P : Type 0} (next_due : P → Option ℕ) (settled : ℕ → P → P) 
   -- ── later moments ──
 
   -- a part that has done what was due at the moment of the first, or had nothing due then, has nothing due by it
-  one_past : (moment : ℕ) (p : P) → ((q : P) → IsPast moment (next_due (settled moment q))) → IsFrom moment (next_due p) → IsPast moment (next_due (settled_at next_due settled moment p))
+  one_past : (moment : ℕ) (p : P) → ((q : P) → IsPast moment (next_due (settled moment q))) → IsFrom moment (next_due p) → IsPast moment (next_due (settled_if_due_at next_due settled moment p))
   one_past moment p quiet from = by (next_due p) refl from
     where
       by_test : (due : ℕ) (b : Bool) → next_due p ≡ Some due → nat_eq due moment ≡ b → moment ≤ due → IsPast moment (next_due (if b then settled moment p else p))
@@ -88,11 +88,11 @@ module _ {P : Type 0} (next_due : P → Option ℕ) (settled : ℕ → P → P) 
   stage_past moment [] quiet from = tt
   stage_past moment (p ∷ ps) quiet from =
       let both = both_from moment (next_due p) (first ps) from in
-      past_both moment (next_due (settled_at next_due settled moment p)) (first (at moment ps)) (one_past moment p quiet both.0) (stage_past moment ps quiet both.1)
+      past_both moment (next_due (settled_if_due_at next_due settled moment p)) (first (at moment ps)) (one_past moment p quiet both.0) (stage_past moment ps quiet both.1)
 
   -- ── the measure ──
 
-  one_weighs : (moment : ℕ) (p : P) → weight (settled_at next_due settled moment p) ≤ weight p
+  one_weighs : (moment : ℕ) (p : P) → weight (settled_if_due_at next_due settled moment p) ≤ weight p
   one_weighs moment p = by (next_due p) refl
     where
       by_test : (due : ℕ) (b : Bool) → next_due p ≡ Some due → nat_eq due moment ≡ b → weight (if b then settled moment p else p) ≤ weight p
@@ -103,16 +103,16 @@ module _ {P : Type 0} (next_due : P → Option ℕ) (settled : ℕ → P → P) 
       by None next = omega arith
       by (Some due) next = by_test due (nat_eq due moment) next refl
 
-  one_lightens : (moment : ℕ) (p : P) → next_due p ≡ Some moment → weight (settled_at next_due settled moment p) < weight p
+  one_lightens : (moment : ℕ) (p : P) → next_due p ≡ Some moment → weight (settled_if_due_at next_due settled moment p) < weight p
   one_lightens moment p next =
-      let there : settled_at next_due settled moment p ≡ settled moment p =
+      let there : settled_if_due_at next_due settled moment p ≡ settled moment p =
       ap (λ (o : Option ℕ). settled_if next_due settled o moment p) next ∙ ap (λ (b : Bool). if b then settled moment p else p) (eq-eqb moment moment refl) in
       omega (arith, ap weight there, lighter p moment next)
 
   all_weigh : (moment : ℕ) (parts : List P) → sum_by weight (at moment parts) ≤ sum_by weight parts
   all_weigh moment [] = omega arith
   all_weigh moment (p ∷ ps) =
-      omega (arith, sum_by-cons weight (settled_at next_due settled moment p) (at moment ps), sum_by-cons weight p ps, one_weighs moment p, all_weigh moment ps)
+      omega (arith, sum_by-cons weight (settled_if_due_at next_due settled moment p) (at moment ps), sum_by-cons weight p ps, one_weighs moment p, all_weigh moment ps)
 
   abbrev Falls : ℕ → List P → Type 0
   Falls due parts = sum_by weight (at due parts) < sum_by weight parts
@@ -123,10 +123,10 @@ module _ {P : Type 0} (next_due : P → Option ℕ) (settled : ℕ → P → P) 
   stage_lighter (p ∷ ps) due next = by (stage_lighter ps due) (next_due p) (first ps) refl refl next
     where
       by_head : next_due p ≡ Some due → Falls due (p ∷ ps)
-      by_head is = omega (arith, sum_by-cons weight (settled_at next_due settled due p) (at due ps), sum_by-cons weight p ps, one_lightens due p is, all_weigh due ps)
+      by_head is = omega (arith, sum_by-cons weight (settled_if_due_at next_due settled due p) (at due ps), sum_by-cons weight p ps, one_lightens due p is, all_weigh due ps)
 
       by_tail : (first ps ≡ Some due → Falls due ps) → first ps ≡ Some due → Falls due (p ∷ ps)
-      by_tail later is = omega (arith, sum_by-cons weight (settled_at next_due settled due p) (at due ps), sum_by-cons weight p ps, one_weighs due p, later is)
+      by_tail later is = omega (arith, sum_by-cons weight (settled_if_due_at next_due settled due p) (at due ps), sum_by-cons weight p ps, one_weighs due p, later is)
 
       by_least : (first ps ≡ Some due → Falls due ps) → (x y : ℕ) (b : Bool) → nat_le x y ≡ b → next_due p ≡ Some x → first ps ≡ Some y → min x y ≡ due → Falls due (p ∷ ps)
       by_least later x y true le a b is = by_head (a ∙ ap Some (let same : x ≡ due = omega (arith, leb-true x y le, is) in same))
@@ -142,16 +142,16 @@ module _ {P : Type 0} (next_due : P → Option ℕ) (settled : ℕ → P → P) 
   together_step : (last due : ℕ) (parts : List P) → first parts ≡ Some due → due ≤ last
       → passed_together next_due settled weight last parts ≡ passed_together next_due settled weight last (at due parts)
   together_step last due parts next in_time =
-      pass_step (first_due next_due settled) (stage_at next_due settled) (λ due there later. later) (λ there. there) (sum_by weight) stage_lighter last due parts next in_time
+      pass_step (first_moment_due next_due settled) (stage_at next_due settled) (λ due there later. later) (λ there. there) (sum_by weight) stage_lighter last due parts next in_time
 
   together_past : (last : ℕ) (parts : List P) → IsPast last (first parts) → passed_together next_due settled weight last parts ≡ parts
   together_past last parts past = by (first parts) refl past
     where
       by : (o : Option ℕ) → first parts ≡ o → IsPast last o → passed_together next_due settled weight last parts ≡ parts
       by None next past =
-          pass_none (first_due next_due settled) (stage_at next_due settled) (λ due there later. later) (λ there. there) (sum_by weight) stage_lighter last (sum_by weight parts) parts next
+          pass_none (first_moment_due next_due settled) (stage_at next_due settled) (λ due there later. later) (λ there. there) (sum_by weight) stage_lighter last (sum_by weight parts) parts next
       by (Some due) next late =
-          pass_late (first_due next_due settled) (stage_at next_due settled) (λ due there later. later) (λ there. there) (sum_by weight) stage_lighter last (sum_by weight parts) due parts next late
+          pass_late (first_moment_due next_due settled) (stage_at next_due settled) (λ due there later. later) (λ there. there) (sum_by weight) stage_lighter last (sum_by weight parts) due parts next late
 
   together_by : (k last : ℕ) (parts : List P) → sum_by weight parts ≤ k → passed_together next_due settled weight last parts ≡ map (to last) parts
   together_by zero last parts few = by (first parts) refl
@@ -189,7 +189,7 @@ module _ {P : Type 0} (next_due : P → Option ℕ) (settled : ℕ → P → P) 
     pub told_step : (last due : ℕ) (parts : List P) → first parts ≡ Some due → due ≤ last
         → told last parts ≡ turns_at next_due settled steps_left slice due parts ++ told last (at due parts)
     told_step last due parts next in_time =
-        pass_step (first_due next_due settled) (stage_at next_due settled) (λ due there later. turns_at next_due settled steps_left slice due there ++ later) (λ there. []) (sum_by weight) stage_lighter
+        pass_step (first_moment_due next_due settled) (stage_at next_due settled) (λ due there later. turns_at next_due settled steps_left slice due there ++ later) (λ there. []) (sum_by weight) stage_lighter
         last due parts next in_time
 
     pub told_past : (last : ℕ) (parts : List P) → IsPast last (first parts) → told last parts ≡ []
@@ -197,10 +197,10 @@ module _ {P : Type 0} (next_due : P → Option ℕ) (settled : ℕ → P → P) 
       where
         by : (o : Option ℕ) → first parts ≡ o → IsPast last o → told last parts ≡ []
         by None next past =
-            pass_none (first_due next_due settled) (stage_at next_due settled) (λ due there later. turns_at next_due settled steps_left slice due there ++ later) (λ there. []) (sum_by weight) stage_lighter
+            pass_none (first_moment_due next_due settled) (stage_at next_due settled) (λ due there later. turns_at next_due settled steps_left slice due there ++ later) (λ there. []) (sum_by weight) stage_lighter
             last (sum_by weight parts) parts next
         by (Some due) next late =
-            pass_late (first_due next_due settled) (stage_at next_due settled) (λ due there later. turns_at next_due settled steps_left slice due there ++ later) (λ there. []) (sum_by weight) stage_lighter
+            pass_late (first_moment_due next_due settled) (stage_at next_due settled) (λ due there later. turns_at next_due settled steps_left slice due there ++ later) (λ there. []) (sum_by weight) stage_lighter
             last (sum_by weight parts) due parts next late
 
     told_then_past : (first_to last : ℕ) (parts : List P) → IsPast first_to (first parts) → told last parts ≡ told first_to parts ++ told last (map (to first_to) parts)

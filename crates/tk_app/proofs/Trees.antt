@@ -5,19 +5,19 @@ use Rattle.std.specs.Str.{bytes_eq}
 use Rattle.tcl_vars.specs.Store.{Store}
 use Rattle.tcl_control.specs.declared.code.Code.{Code}
 use Rattle.tcl_control.specs.declared.code.Code.TheVariants.{Normal, Error, Return, Break, Continue}
-use Rattle.tk_after.specs.declared.entry.Entry.{Entry}
+use Rattle.tk_after.specs.declared.waiting.WaitingScript.{WaitingScript}
 use Rattle.tk_after.specs.Timers.{first_due, idle_ids}
 use Rattle.tk_base.specs.declared.kind.Kind.{Kind}
 use Rattle.tk_base.specs.declared.rect.Rect.{Rect}
 use Rattle.tk_packer.specs.declared.changes.PlaceChange.{PlaceChange}
 use Rattle.tk_packer.specs.declared.changes.PlaceChange.TheVariants.{Unmap, Configure, Map}
-use Rattle.tk_screen.specs.Layout.{changes_due, laid_out}
-use Rattle.tk_screen.specs.Own.{Own as Screen}
+use Rattle.tk_screen.specs.Layout.{changes_due, laid_out_windowing}
+use Rattle.tk_screen.specs.Own.{Windowing}
 use Rattle.tk_screen.specs.Placing.{mapped_as, placed_at, with_changed, with_changes}
 use Rattle.tk_tree.specs.Change.{dying, with_place}
 use Rattle.tk_tree.specs.Create.{parent_number, refusal, with_window}
 use Rattle.tk_tree.specs.declared.window.Window.{Window}
-use Rattle.tk_tree.specs.Own.{Own as Tree, child_numbers, window_at, with_change, without_window}
+use Rattle.tk_tree.specs.Own.{Tree, child_numbers, window_at, with_change, without_window}
 use Rattle.tk_panel.specs.declared.job.Home.{Home}
 use Rattle.tk_panel.specs.declared.job.Home.TheVariants.{Settle, Update, IdleTasks, LastLayout}
 use Rattle.tk_panel.specs.declared.job.Job.{Job}
@@ -48,46 +48,46 @@ pub record HoldsOfActs (Q : Tree → Tree → Type 0) : Type 0 where
 
 -- ── what leaves the screen ──
 
-timer_screen : (rest : Rest) (panel : Panel) (entry : Option Entry) → (timer_taken rest panel entry).0.screen ≡ panel.screen
+timer_screen : (rest : Rest) (panel : Panel) (entry : Option WaitingScript) → (timer_taken rest panel entry).0.windowing ≡ panel.windowing
 timer_screen rest panel None = refl
 timer_screen rest panel (Some entry) = refl
 
-rest_screen : (rest : Rest) (panel : Panel) → (start_rest rest panel).0.screen ≡ panel.screen
+rest_screen : (rest : Rest) (panel : Panel) → (start_rest rest panel).0.windowing ≡ panel.windowing
 rest_screen NoRest panel = refl
 rest_screen (Destroys window doomed paths) panel = refl
 rest_screen (Rounds [] home) panel = timer_screen (Rounds [] home) panel (first_due panel.moment panel.timers.entries)
 rest_screen (Rounds (id ∷ ids) home) panel = refl
 
-event_screen : (event : Option (List (List ℕ))) (rest : Rest) (panel : Panel) → (start_event event rest panel).0.screen ≡ panel.screen
+event_screen : (event : Option (List (List ℕ))) (rest : Rest) (panel : Panel) → (start_event event rest panel).0.windowing ≡ panel.windowing
 event_screen (Some (script ∷ scripts)) rest panel = refl
 event_screen (Some []) rest panel = rest_screen rest panel
 event_screen None rest panel = rest_screen rest panel
 
-pub start_screen : (job : Job) (panel : Panel) → (start job panel).0.screen ≡ panel.screen
+pub start_screen : (job : Job) (panel : Panel) → (start job panel).0.windowing ≡ panel.windowing
 start_screen job panel = event_screen job.event job.rest panel
 
-pub end_screen : (code : Code) (text : List ℕ) (panel : Panel) → (with_end code text panel).screen ≡ panel.screen
+pub end_screen : (code : Code) (text : List ℕ) (panel : Panel) → (with_end code text panel).windowing ≡ panel.windowing
 end_screen Normal text panel = refl
 end_screen Error text panel = refl
 end_screen (Return code) text panel = refl
 end_screen Break text panel = refl
 end_screen Continue text panel = refl
 
-bound_screen : (code : Code) (text : List ℕ) (scripts : List (List ℕ)) (rest : Rest) (panel : Panel) → (bound_ended code text scripts rest panel).0.screen ≡ panel.screen
+bound_screen : (code : Code) (text : List ℕ) (scripts : List (List ℕ)) (rest : Rest) (panel : Panel) → (bound_ended code text scripts rest panel).0.windowing ≡ panel.windowing
 bound_screen Normal text scripts rest panel = refl
 bound_screen Error text scripts rest panel = refl
 bound_screen (Return code) text scripts rest panel = refl
 bound_screen Break text scripts rest panel = refl
 bound_screen Continue text scripts rest panel = refl
 
-by_event : (event : Option (List (List ℕ))) (rest : Rest) (code : Code) (text : List ℕ) (panel : Panel) → (ended_by event rest code text panel).0.screen ≡ panel.screen
+by_event : (event : Option (List (List ℕ))) (rest : Rest) (code : Code) (text : List ℕ) (panel : Panel) → (ended_by event rest code text panel).0.windowing ≡ panel.windowing
 by_event (Some scripts) rest code text panel = bound_screen code text scripts rest panel
 by_event None rest code text panel = end_screen code text panel
 
-pub ended_screen : (code : Code) (text : List ℕ) (panel : Panel) (job : Job) → (ended code text panel job).0.screen ≡ panel.screen
+pub ended_screen : (code : Code) (text : List ℕ) (panel : Panel) (job : Job) → (ended code text panel job).0.windowing ≡ panel.windowing
 ended_screen code text panel job = by_event job.event job.rest code text panel
 
-destroy_screen : (panel : Panel) (window : Option Window) → (destroy_at panel window).0.screen ≡ panel.screen
+destroy_screen : (panel : Panel) (window : Option Window) → (destroy_at panel window).0.windowing ≡ panel.windowing
 destroy_screen panel None = refl
 destroy_screen panel (Some window) = chosen_screen (destroy_event window panel.moment) panel
 
@@ -115,36 +115,36 @@ module _ (Q : Tree → Tree → Type 0) (acts : HoldsOfActs Q) where
   all_changed (change ∷ changes) tree =
       acts.after tree (with_changed change tree) (with_changes changes (with_changed change tree)) (one_changed change tree) (all_changed changes (with_changed change tree))
 
-  laid_tree : (own : Screen) (store : Store) → Q own.tree (laid_out own store).tree
-  unfolding laid_out
+  laid_tree : (own : Windowing) (store : Store) → Q own.tree (laid_out_windowing own store).tree
+  unfolding laid_out_windowing
   laid_tree own store = all_changed (changes_due own store) own.tree
 
   -- from one panel to another
   abbrev pub Acts : Panel → Panel → Type 0
-  Acts old new = Q old.screen.tree new.screen.tree
+  Acts old new = Q old.windowing.tree new.windowing.tree
 
-  pub by_screen : (old new : Panel) → new.screen ≡ old.screen → Acts old new
-  by_screen old new same = subst (λ (screen : Screen). Q old.screen.tree screen.tree) (sym same) (acts.same old.screen.tree)
+  pub by_screen : (old new : Panel) → new.windowing ≡ old.windowing → Acts old new
+  by_screen old new same = subst (λ (windowing : Windowing). Q old.windowing.tree windowing.tree) (sym same) (acts.same old.windowing.tree)
 
   pub both : (first mid last : Panel) → Acts first mid → Acts mid last → Acts first last
-  both first mid last one other = acts.after first.screen.tree mid.screen.tree last.screen.tree one other
+  both first mid last one other = acts.after first.windowing.tree mid.windowing.tree last.windowing.tree one other
 
   pub laid : (store : Store) (panel : Panel) → Acts panel (laid_out_panel store panel)
-  laid store panel = subst (λ (screen : Screen). Q panel.screen.tree screen.tree) (sym (laid_screen store panel)) (laid_tree panel.screen store)
+  laid store panel = subst (λ (windowing : Windowing). Q panel.windowing.tree windowing.tree) (sym (laid_screen store panel)) (laid_tree panel.windowing store)
 
   -- ── *Destroy* ──
 
   pub removed_acts : (number : ℕ) (panel : Panel) → Acts panel (removed number panel)
   unfolding removed
-  removed_acts number panel = by (window_at number panel.screen.tree)
+  removed_acts number panel = by (window_at number panel.windowing.tree)
     where
       leaf : (window : Window) (b : Bool) → Acts panel (cond b (without_path number window.path panel) panel)
-      leaf window true = acts.gone number panel.screen.tree
-      leaf window false = acts.same panel.screen.tree
+      leaf window true = acts.gone number panel.windowing.tree
+      leaf window false = acts.same panel.windowing.tree
 
       by : (window : Option Window) → Acts panel (removed_at number panel window)
-      by None = acts.same panel.screen.tree
-      by (Some window) = leaf window (length (child_numbers number panel.screen.tree.windows) == 0)
+      by None = acts.same panel.windowing.tree
+      by (Some window) = leaf window (length (child_numbers number panel.windowing.tree.windows) == 0)
 
   pub dying_acts : (numbers : List ℕ) (tree : Tree) → Q tree (all_dying numbers tree)
   unfolding all_dying
@@ -155,16 +155,16 @@ module _ (Q : Tree → Tree → Type 0) (acts : HoldsOfActs Q) where
       (dying_acts numbers (with_change number dying tree))
 
   pub marked_acts : (numbers : List ℕ) (panel : Panel) → Acts panel (marked numbers panel)
-  marked_acts numbers panel = dying_acts numbers panel.screen.tree
+  marked_acts numbers panel = dying_acts numbers panel.windowing.tree
 
   doomed_acts : (numbers : List ℕ) (panel : Panel) → Acts panel (next_doomed numbers panel).panel
   unfolding next_doomed
-  doomed_acts [] panel = acts.same panel.screen.tree
+  doomed_acts [] panel = acts.same panel.windowing.tree
   doomed_acts (number ∷ numbers) panel =
       let there : Panel × List (List ℕ) = destroy_chosen number panel in
-      by there.1 there.0 (destroy_screen panel (window_at number panel.screen.tree)) (doomed_acts numbers (removed number there.0))
+      by there.1 there.0 (destroy_screen panel (window_at number panel.windowing.tree)) (doomed_acts numbers (removed number there.0))
     where
-      by : (scripts : List (List ℕ)) (after : Panel) → after.screen ≡ panel.screen → Acts (removed number after) (next_doomed numbers (removed number after)).panel
+      by : (scripts : List (List ℕ)) (after : Panel) → after.windowing ≡ panel.windowing → Acts (removed number after) (next_doomed numbers (removed number after)).panel
           → Acts panel (or_removed number numbers (next_doomed numbers) after scripts).panel
       by [] after one later =
           both panel after (next_doomed numbers (removed number after)).panel (by_screen panel after one)
@@ -185,23 +185,23 @@ module _ (Q : Tree → Tree → Type 0) (acts : HoldsOfActs Q) where
 
   destroys_come : (paths : List (List ℕ)) (panel : Panel) → Comes panel (destroys paths panel)
   unfolding destroys
-  destroys_come [] panel = acts.same panel.screen.tree
+  destroys_come [] panel = acts.same panel.windowing.tree
   destroys_come (path ∷ paths) panel =
       let numbers : List ℕ = doomed_by path panel in
       both panel (marked numbers panel) (doomed_next paths (destroys paths) numbers (marked numbers panel)).0 (marked_acts numbers panel)
       (doomed_comes paths (destroys paths) (destroys_come paths) numbers (marked numbers panel))
 
   last_acts : (window : Option ℕ) (panel : Panel) → Acts panel (without_last window panel)
-  last_acts None panel = acts.same panel.screen.tree
+  last_acts None panel = acts.same panel.windowing.tree
   last_acts (Some number) panel = removed_acts number panel
 
   round_comes : (home : Home) (ids : List ℕ) (panel : Panel) → Comes panel (on_round home ids panel)
-  round_comes home [] panel = acts.same panel.screen.tree
-  round_comes home (id ∷ ids) panel = acts.same panel.screen.tree
+  round_comes home [] panel = acts.same panel.windowing.tree
+  round_comes home (id ∷ ids) panel = acts.same panel.windowing.tree
 
   event_comes : (home : Home) (otherwise : Panel → Next) → ((panel : Panel) → Comes panel (otherwise panel)) → (panel : Panel) (scripts : List (List ℕ)) → Comes panel (on_event home otherwise panel scripts)
   event_comes home otherwise later panel [] = later panel
-  event_comes home otherwise later panel (script ∷ scripts) = acts.same panel.screen.tree
+  event_comes home otherwise later panel (script ∷ scripts) = acts.same panel.windowing.tree
 
   layout_comes : (home : Home) (store : Store) (panel : Panel) → Comes panel (after_layout home store panel)
   unfolding queue_or_round
@@ -216,7 +216,7 @@ module _ (Q : Tree → Tree → Type 0) (acts : HoldsOfActs Q) where
   timer_comes home store panel = by (is_due panel.moment panel.timers.entries)
     where
       by : (b : Bool) → Comes panel (cond b (panel, Some (record { event = None; rest = Rounds [] home })) (after_layout home store panel))
-      by true = acts.same panel.screen.tree
+      by true = acts.same panel.windowing.tree
       by false = layout_comes home store panel
 
   turn_comes : (home : Home) (store : Store) (panel : Panel) → Comes panel (turn home store panel)
@@ -228,13 +228,13 @@ module _ (Q : Tree → Tree → Type 0) (acts : HoldsOfActs Q) where
 
   tasks_come : (store : Store) (ids : List ℕ) (panel : Panel) → Comes panel (tasks_round store ids panel)
   tasks_come store [] panel = laid store panel
-  tasks_come store (id ∷ ids) panel = acts.same panel.screen.tree
+  tasks_come store (id ∷ ids) panel = acts.same panel.windowing.tree
 
   home_comes : (home : Home) (store : Store) (panel : Panel) → Comes panel (at_home home store panel)
   home_comes Settle store panel = by (is_closed panel)
     where
       by : (b : Bool) → Comes panel (cond b (panel, None) (turn Settle store panel))
-      by true = acts.same panel.screen.tree
+      by true = acts.same panel.windowing.tree
       by false = turn_comes Settle store panel
   home_comes Update store panel = turn_comes Update store panel
   home_comes IdleTasks store panel =
@@ -244,17 +244,17 @@ module _ (Q : Tree → Tree → Type 0) (acts : HoldsOfActs Q) where
 
   left_comes : (home : Home) (store : Store) (ids : List ℕ) (panel : Panel) → Comes panel (after_round home store ids panel)
   left_comes home store [] panel = home_comes home store panel
-  left_comes home store (id ∷ ids) panel = acts.same panel.screen.tree
+  left_comes home store (id ∷ ids) panel = acts.same panel.windowing.tree
 
   rest_comes : (rest : Rest) (store : Store) (panel : Panel) → Comes panel (next_rest rest store panel)
-  rest_comes NoRest store panel = acts.same panel.screen.tree
+  rest_comes NoRest store panel = acts.same panel.windowing.tree
   rest_comes (Destroys window doomed paths) store panel =
       both panel (without_last window panel) (doomed_next paths (destroys paths) doomed (without_last window panel)).0 (last_acts window panel)
       (doomed_comes paths (destroys paths) (destroys_come paths) doomed (without_last window panel))
   rest_comes (Rounds ids home) store panel = left_comes home store (still_waiting ids panel.timers.entries) panel
 
   by_next : (event : Option (List (List ℕ))) (rest : Rest) (store : Store) (panel : Panel) → Comes panel (next_event event rest store panel)
-  by_next (Some (script ∷ scripts)) rest store panel = acts.same panel.screen.tree
+  by_next (Some (script ∷ scripts)) rest store panel = acts.same panel.windowing.tree
   by_next (Some []) rest store panel = rest_comes rest store panel
   by_next None rest store panel = rest_comes rest store panel
 

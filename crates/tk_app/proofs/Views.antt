@@ -3,18 +3,19 @@ use Rattle.std.proofs.Common.{◌≡◌, ℕ, zero, suc, ◌-◌, ◌<◌, ◌�
 use Rattle.std.specs.Prelude.{Some, Result, Ok, Err, OnErr, slice_get, slice_set}
 use Rattle.std.proofs.lemmas.List.{append-nil, length-set}
 use Rattle.tk_app.specs.declared.turns.Turn.{Turn}
-use Rattle.tk_app.specs.Rounds.{entry}
+use Rattle.tk_app.specs.Rounds.{one_turn}
 use Rattle.tk_panel.specs.declared.tables.Tables.{Tables}
 use Rattle.tk_panel.specs.Fresh.{nothing}
-use Rattle.tk_panel.specs.Panel.{others_of, panel_of}
+use Rattle.tk_panel.specs.Others.{others_of}
+use Rattle.tk_panel.specs.Panel.{panel_of}
 use Rattle.tk_panel.proofs.Others.{other_same}
 use Rattle.tk_app.specs.Part.{Part}
 use Rattle.tk_app.specs.Turns.{Applications, ChangesOnly, ChangesPart, IsVacantFrom, Program, part_of, parts_from}
 use Rattle.tk_app.proofs.Slots.{get_parts, length-parts_from, set_parts}
 
 -- without a step nothing is told
-pub none_told : (turns : List Turn) (slot steps : ℕ) → turns ≡ turns ++ entry slot (steps - steps)
-none_told turns slot steps = let none : steps - steps ≡ 0 = omega arith in sym (ap (λ n. turns ++ entry slot n) none ∙ append-nil turns)
+pub none_told : (turns : List Turn) (slot steps : ℕ) → turns ≡ turns ++ one_turn slot (steps - steps)
+none_told turns slot steps = let none : steps - steps ≡ 0 = omega arith in sym (ap (λ n. turns ++ one_turn slot n) none ∙ append-nil turns)
 
 there : {M : Type 0} (parts : List (Part M)) (slot : ℕ) → slot < length parts → (part : Part M) × (slice_get parts slot ≡ Some part) × (slice_set parts slot part ≡ parts)
 there [] slot lt = absurd (omega (arith, lt))

@@ -3,7 +3,7 @@ use Rattle.std.proofs.Common.{◌≡◌, ◌≢◌, ◌+◌, ◌-◌, ◌*◌, �
 use Rattle.std.specs.Prelude.{min, nat_eq, nat_le, slice_index, IfSome, option_map, if◌then◌else◌}
 use Rattle.std.proofs.lemmas.Bool.{eqb-true, leb-true, leb-false}
 use Rattle.tk_app.specs.declared.turns.Turn.{Turn}
-use Rattle.tk_app.specs.Rounds.{entry, round_from, turns_of}
+use Rattle.tk_app.specs.Rounds.{one_turn, round_from, turns_of}
 use Rattle.tk_app.specs.Shares.{before_next, WaitsAtMost}
 use Rattle.tk_app.proofs.Rounds.{rounds}
 
@@ -20,7 +20,7 @@ within_less less most None le within = tt
 within_less less most (Some steps) le within = omega (arith, within, le)
 
 -- a turn of another slot
-other_first : (slot other n most : ℕ) (turns : List Turn) → other ≢ slot → Within most slot turns → Within (n + most) slot (entry other n ++ turns)
+other_first : (slot other n most : ℕ) (turns : List Turn) → other ≢ slot → Within most slot turns → Within (n + most) slot (one_turn other n ++ turns)
 other_first slot other zero most turns differ within = within_less most (0 + most) (before_next slot turns) (omega arith) within
 other_first slot other (suc n) most turns differ within = by (nat_eq other slot) refl
   where
@@ -28,12 +28,12 @@ other_first slot other (suc n) most turns differ within = by (nat_eq other slot)
     by true is = absurd (differ (eqb-true other slot is))
     by false is = within_more (suc n) most (before_next slot turns) within
 
-own_first : (slot n most : ℕ) (turns : List Turn) → 0 < n → Within most slot (entry slot n ++ turns)
+own_first : (slot n most : ℕ) (turns : List Turn) → 0 < n → Within most slot (one_turn slot n ++ turns)
 own_first slot zero most turns some = absurd (omega (arith, some))
 own_first slot (suc n) most turns some =
     subst (λ b. IfSome (if b then Some 0 else option_map (λ steps. suc n + steps) (before_next slot turns)) (λ steps. steps ≤ most)) (sym (eq-eqb slot slot refl)) (omega arith)
 
-none_first : (slot other n : ℕ) (turns : List Turn) → other ≢ slot → before_next slot turns ≡ None → before_next slot (entry other n ++ turns) ≡ None
+none_first : (slot other n : ℕ) (turns : List Turn) → other ≢ slot → before_next slot turns ≡ None → before_next slot (one_turn other n ++ turns) ≡ None
 none_first slot other zero turns differ none = none
 none_first slot other (suc n) turns differ none = by (nat_eq other slot) refl
   where
@@ -41,11 +41,11 @@ none_first slot other (suc n) turns differ none = by (nat_eq other slot) refl
     by true is = absurd (differ (eqb-true other slot is))
     by false is = ap (option_map (λ steps. suc n + steps)) none
 
-waits_first : (most slot other n : ℕ) (turns : List Turn) → other ≢ slot → WaitsAtMost most slot turns → WaitsAtMost most slot (entry other n ++ turns)
+waits_first : (most slot other n : ℕ) (turns : List Turn) → other ≢ slot → WaitsAtMost most slot turns → WaitsAtMost most slot (one_turn other n ++ turns)
 waits_first most slot other zero turns differ waits = waits
 waits_first most slot other (suc n) turns differ waits = (λ same. absurd (differ same), waits)
 
-waits_own : (most slot n : ℕ) (turns : List Turn) → Within most slot turns → WaitsAtMost most slot turns → WaitsAtMost most slot (entry slot n ++ turns)
+waits_own : (most slot n : ℕ) (turns : List Turn) → Within most slot turns → WaitsAtMost most slot turns → WaitsAtMost most slot (one_turn slot n ++ turns)
 waits_own most slot zero turns within waits = waits
 waits_own most slot (suc n) turns within waits = (λ same. within, waits)
 
@@ -58,8 +58,8 @@ above_within slot start slice behind most (need ∷ needs) turns below within =
     let n : ℕ = min slice (need - behind * slice) in
     let rest : List Turn = round_from (start + 1) slice behind needs in
     let all : ℕ = suc (length needs) * slice + most in
-    subst (Within all slot) (sym (append_assoc (entry start n) rest turns))
-    (within_less (n + (length needs * slice + most)) all (before_next slot (entry start n ++ (rest ++ turns))) (omega arith)
+    subst (Within all slot) (sym (append_assoc (one_turn start n) rest turns))
+    (within_less (n + (length needs * slice + most)) all (before_next slot (one_turn start n ++ (rest ++ turns))) (omega arith)
     (other_first slot start n (length needs * slice + most) (rest ++ turns) (λ same. omega (arith, same, below)) (above_within slot (start + 1) slice behind most needs turns (omega (arith, below)) within)))
 
 above_waits : (most slot start slice behind : ℕ) (needs : List ℕ) (turns : List Turn) → slot < start → WaitsAtMost most slot turns
@@ -68,7 +68,7 @@ above_waits most slot start slice behind [] turns below waits = waits
 above_waits most slot start slice behind (need ∷ needs) turns below waits =
     let n : ℕ = min slice (need - behind * slice) in
     let rest : List Turn = round_from (start + 1) slice behind needs in
-    subst (WaitsAtMost most slot) (sym (append_assoc (entry start n) rest turns))
+    subst (WaitsAtMost most slot) (sym (append_assoc (one_turn start n) rest turns))
     (waits_first most slot start n (rest ++ turns) (λ same. omega (arith, same, below)) (above_waits most slot (start + 1) slice behind needs turns (omega (arith, below)) waits))
 
 above_none : (slot start slice behind : ℕ) (needs : List ℕ) (turns : List Turn) → slot < start → before_next slot turns ≡ None
@@ -77,7 +77,7 @@ above_none slot start slice behind [] turns below none = none
 above_none slot start slice behind (need ∷ needs) turns below none =
     let n : ℕ = min slice (need - behind * slice) in
     let rest : List Turn = round_from (start + 1) slice behind needs in
-    ap (before_next slot) (append_assoc (entry start n) rest turns)
+    ap (before_next slot) (append_assoc (one_turn start n) rest turns)
     ∙ none_first slot start n (rest ++ turns) (λ same. omega (arith, same, below)) (above_none slot (start + 1) slice behind needs turns (omega (arith, below)) none)
 
 -- ── a round with the slot in it ──
@@ -89,13 +89,13 @@ own_within slot start zero slice behind (need ∷ needs) turns positive at some 
     let n : ℕ = min slice (need - behind * slice) in
     let rest : List Turn = round_from (start + 1) slice behind needs in
     let same : slot ≡ start = omega (arith, at) in
-    subst (Within (0 * slice) slot) (sym (append_assoc (entry start n) rest turns))
-    (subst (λ s. Within (0 * slice) slot (entry s n ++ (rest ++ turns))) same (own_first slot n (0 * slice) (rest ++ turns) (omega (arith, some, positive))))
+    subst (Within (0 * slice) slot) (sym (append_assoc (one_turn start n) rest turns))
+    (subst (λ s. Within (0 * slice) slot (one_turn s n ++ (rest ++ turns))) same (own_first slot n (0 * slice) (rest ++ turns) (omega (arith, some, positive))))
 own_within slot start (suc i) slice behind (need ∷ needs) turns positive at some =
     let n : ℕ = min slice (need - behind * slice) in
     let rest : List Turn = round_from (start + 1) slice behind needs in
-    subst (Within (suc i * slice) slot) (sym (append_assoc (entry start n) rest turns))
-    (within_less (n + i * slice) (suc i * slice) (before_next slot (entry start n ++ (rest ++ turns))) (omega arith)
+    subst (Within (suc i * slice) slot) (sym (append_assoc (one_turn start n) rest turns))
+    (within_less (n + i * slice) (suc i * slice) (before_next slot (one_turn start n ++ (rest ++ turns))) (omega arith)
     (other_first slot start n (i * slice) (rest ++ turns) (λ same. omega (arith, same, at)) (own_within slot (start + 1) i slice behind needs turns positive (omega (arith, at)) some)))
 
 own_none : (slot start i slice behind : ℕ) (needs : List ℕ) (turns : List Turn) → start + i ≡ slot → slice_index needs i - behind * slice ≡ 0
@@ -103,12 +103,12 @@ own_none : (slot start i slice behind : ℕ) (needs : List ℕ) (turns : List Tu
 own_none slot start i slice behind [] turns at done none = none
 own_none slot start zero slice behind (need ∷ needs) turns at done none =
     let nothing : min slice (need - behind * slice) ≡ 0 = omega (arith, done) in
-    ap (λ n. before_next slot ((entry start n ++ round_from (start + 1) slice behind needs) ++ turns)) nothing
+    ap (λ n. before_next slot ((one_turn start n ++ round_from (start + 1) slice behind needs) ++ turns)) nothing
     ∙ above_none slot (start + 1) slice behind needs turns (omega (arith, at)) none
 own_none slot start (suc i) slice behind (need ∷ needs) turns at done none =
     let n : ℕ = min slice (need - behind * slice) in
     let rest : List Turn = round_from (start + 1) slice behind needs in
-    ap (before_next slot) (append_assoc (entry start n) rest turns)
+    ap (before_next slot) (append_assoc (one_turn start n) rest turns)
     ∙ none_first slot start n (rest ++ turns) (λ same. omega (arith, same, at)) (own_none slot (start + 1) i slice behind needs turns (omega (arith, at)) done none)
 
 own_waits : (most slot start i k first slice behind : ℕ) (needs : List ℕ) (turns : List Turn) → start + i ≡ slot → i + k + 1 ≡ length needs → k * slice + first ≤ most
@@ -120,15 +120,15 @@ own_waits most slot start zero k first slice behind (need ∷ needs) turns at th
     let same : slot ≡ start = omega (arith, at) in
     let others : length needs ≡ k = omega (arith, there) in
     let less : length needs * slice + first ≤ most = subst (λ m. m * slice + first ≤ most) (sym others) le in
-    subst (WaitsAtMost most slot) (sym (append_assoc (entry start n) rest turns))
-    (subst (λ s. WaitsAtMost most slot (entry s n ++ (rest ++ turns))) same
+    subst (WaitsAtMost most slot) (sym (append_assoc (one_turn start n) rest turns))
+    (subst (λ s. WaitsAtMost most slot (one_turn s n ++ (rest ++ turns))) same
     (waits_own most slot n (rest ++ turns)
     (within_less (length needs * slice + first) most (before_next slot (rest ++ turns)) less (above_within slot (start + 1) slice behind first needs turns (omega (arith, at)) within))
     (above_waits most slot (start + 1) slice behind needs turns (omega (arith, at)) waits)))
 own_waits most slot start (suc i) k first slice behind (need ∷ needs) turns at there le within waits =
     let n : ℕ = min slice (need - behind * slice) in
     let rest : List Turn = round_from (start + 1) slice behind needs in
-    subst (WaitsAtMost most slot) (sym (append_assoc (entry start n) rest turns))
+    subst (WaitsAtMost most slot) (sym (append_assoc (one_turn start n) rest turns))
     (waits_first most slot start n (rest ++ turns) (λ same. omega (arith, same, at))
     (own_waits most slot (start + 1) i k first slice behind needs turns (omega (arith, at)) (omega (arith, there)) le within waits))
 
@@ -160,7 +160,7 @@ beyond_waits most slot start slice behind [] turns beyond waits = waits
 beyond_waits most slot start slice behind (need ∷ needs) turns beyond waits =
     let n : ℕ = min slice (need - behind * slice) in
     let rest : List Turn = round_from (start + 1) slice behind needs in
-    subst (WaitsAtMost most slot) (sym (append_assoc (entry start n) rest turns))
+    subst (WaitsAtMost most slot) (sym (append_assoc (one_turn start n) rest turns))
     (waits_first most slot start n (rest ++ turns) (λ same. omega (arith, same, beyond)) (beyond_waits most slot (start + 1) slice behind needs turns (omega (arith, beyond)) waits))
 
 rounds_beyond : (n most slot slice behind : ℕ) (needs : List ℕ) → length needs ≤ slot → WaitsAtMost most slot (rounds n slice behind needs)

@@ -2,11 +2,11 @@
 use Rattle.std.specs.Prelude.{ℕ, List, [], ◌∷◌, ◌++◌, Option, None}
 use Rattle.tcl_control.specs.Table.{NamedCommands, first_commands}
 use Rattle.tcl_vars.specs.Store.{Store}
-use Rattle.tk_after.specs.Timers.{Own as Timers, due_moments, least}
+use Rattle.tk_after.specs.Timers.{Timers, due_moments, least}
 use Rattle.tk_sequences.specs.declared.event.Event.{Event}
 use Rattle.tk_inputs.specs.declared.inputs.Input.{Input}
 use Rattle.tk_patterns.specs.declared.binding.Binding.{Binding}
-use Rattle.tk_screen.specs.Own.{Own as Screen}
+use Rattle.tk_screen.specs.Own.{Windowing}
 use Rattle.tk_virtual.specs.declared.pair.Pair.{Pair}
 use Rattle.tk_panel.specs.declared.transcript.Line.{Line}
 use Rattle.tk_panel.specs.Fresh.{fresh as fresh_panel}
@@ -24,7 +24,7 @@ pub record Application (M : Type 0) : Type 0 where
   pub store : Store
   pub commands : NamedCommands
   -- what it has in the tables: its windows, their widgets, what is packed, its rectangle and its title
-  pub screen : Screen
+  pub windowing : Windowing
   -- its bindings and virtual events, in the order of registration
   pub bindings : List Binding
   pub virtuals : List Pair
@@ -32,7 +32,7 @@ pub record Application (M : Type 0) : Type 0 where
   pub history : List Event
   -- the events that wait, the next one first
   pub queue : List Event
-  -- which window has the keys, where the pointer is, which button is pressed
+  -- which window has the keys, where the pointer is, which button widget is pressed
   pub input : Input
   pub timers : Timers
   pub transcript : List Line
@@ -45,7 +45,7 @@ module _ {M : Type 0} where
   abbrev pub panel_at : ℕ → Application M → Panel
   panel_at moment application = record {
     moment = moment;
-    screen = application.screen;
+    windowing = application.windowing;
     bindings = application.bindings;
     virtuals = application.virtuals;
     history = application.history;
@@ -58,7 +58,7 @@ module _ {M : Type 0} where
   -- the application with other things in the tables; the moment isn't its own
   abbrev pub with_panel : Panel → Application M → Application M
   with_panel panel application = record application {
-    screen = panel.screen;
+    windowing = panel.windowing;
     bindings = panel.bindings;
     virtuals = panel.virtuals;
     history = panel.history;
@@ -76,7 +76,7 @@ module _ {M : Type 0} where
     aliases = spec.aliases;
     store = [] ∷ [];
     commands = first_commands (command_names ++ names_of spec.aliases);
-    screen = panel.screen;
+    windowing = panel.windowing;
     bindings = panel.bindings;
     virtuals = panel.virtuals;
     history = panel.history;

@@ -6,7 +6,7 @@ use Rattle.tcl_interp.specs.Evaluation.{Ended}
 use Rattle.tk_tree.specs.declared.window.Window.{Window}
 use Rattle.tk_tree.specs.Own.{window_at}
 use Rattle.tk_panel.specs.Removal.{destroy_event, doomed_by, marked, removed}
-use Rattle.tk_app.specs.Dispatch.{Continuation, dispatch_meaning, shown}
+use Rattle.tk_app.specs.Dispatch.{Continuation, dispatch_meaning, with_shown}
 
 -- with room for so many scripts one in another
 module _ (room : ℕ) where
@@ -19,11 +19,11 @@ module _ (room : ℕ) where
   abbrev pub windows_destroyed : List ℕ → Continuation → Continuation
   windows_destroyed [] behind state = behind state
   windows_destroyed (number ∷ numbers) behind state =
-      destroy_dispatched (window_at number state.shows.panel.screen.tree)
-      (λ left. windows_destroyed numbers behind (shown (removed number left.shows.panel) left)) state
+      destroy_dispatched (window_at number state.shows.panel.windowing.tree)
+      (λ left. windows_destroyed numbers behind (with_shown (removed number left.shows.panel) left)) state
 
   -- *Destroy* of one path after another. Its windows are dying from then on; a path that names no window, or one that is dying, is passed over.
   abbrev pub destroy_meaning : List (List ℕ) → Continuation
   destroy_meaning [] state = Ended state Normal []
   destroy_meaning (path ∷ paths) state =
-      (let numbers : List ℕ = doomed_by path state.shows.panel in windows_destroyed numbers (destroy_meaning paths) (shown (marked numbers state.shows.panel) state))
+      (let numbers : List ℕ = doomed_by path state.shows.panel in windows_destroyed numbers (destroy_meaning paths) (with_shown (marked numbers state.shows.panel) state))

@@ -11,15 +11,15 @@ use Rattle.tk_panel.specs.Choice.{chosen}
 use Rattle.tk_panel.specs.Panel.{Panel}
 use Rattle.tk_panel.specs.Reports.{with_line}
 use Rattle.tk_app.specs.Outside.{outside}
-use Rattle.tk_app.specs.Seen.{Seen, with_panel}
+use Rattle.tk_app.specs.Seen.{Seen, seen_with_panel}
 
 -- the state with another panel
-abbrev pub shown : Panel → State Seen → State Seen
-shown panel state = record state { shows = record state.shows { panel = panel } }
+abbrev pub with_shown : Panel → State Seen → State Seen
+with_shown panel state = record state { shows = record state.shows { panel = panel } }
 
 -- the state with another panel, at the moment that it has
 abbrev pub in_panel : Panel → State Seen → State Seen
-in_panel panel state = record state { shows = with_panel panel state.shows }
+in_panel panel state = record state { shows = seen_with_panel panel state.shows }
 
 -- what is done behind something, with the state that is left
 abbrev pub Continuation : Type 0
@@ -27,7 +27,7 @@ Continuation = State Seen → Outcome Seen
 
 -- with room for so many scripts one in another
 module _ (room : ℕ) where
-  -- what a script comes to at global level, where the first of the levels is alone
+  -- what a script comes to at global level: it sees the global frame alone, and the other levels are back behind it
   abbrev pub global_meaning : List ℕ → State Seen → Outcome Seen
   global_meaning script state = run_at (script_meaning outside room) 1 script state
 
@@ -35,7 +35,7 @@ module _ (room : ℕ) where
   -- is told.
   abbrev pub after_bound : Continuation → Continuation → State Seen → Code → List ℕ → Outcome Seen
   after_bound others behind state Normal text = others state
-  after_bound others behind state Error text = behind (shown (with_line Errors text state.shows.panel) state)
+  after_bound others behind state Error text = behind (with_shown (with_line Errors text state.shows.panel) state)
   after_bound others behind state (Return code) text = others state
   after_bound others behind state Break text = behind state
   after_bound others behind state Continue text = others state
@@ -50,4 +50,4 @@ module _ (room : ℕ) where
   -- run in order. Where a substitution is refused, that is told, the event enters the history all the same, and none runs. An event of a window that is
   -- gone is dropped.
   abbrev pub dispatch_meaning : Event → Continuation → Continuation
-  dispatch_meaning event behind state = (let there : Panel × List (List ℕ) = chosen event state.shows.panel in bound_meaning there.1 behind (shown there.0 state))
+  dispatch_meaning event behind state = (let there : Panel × List (List ℕ) = chosen event state.shows.panel in bound_meaning there.1 behind (with_shown there.0 state))

@@ -2,7 +2,7 @@
 use Rattle.std.specs.Prelude.{◌≡◌, ℕ, List, [], ◌∷◌, None}
 use Rattle.tcl_interp.specs.Evaluation.{State, Outcome, Ended, OutOfSteps}
 use Rattle.tk_panel.specs.Removal.{doomed_by}
-use Rattle.tk_tree.specs.Own.{Own as Tree, window_at}
+use Rattle.tk_tree.specs.Own.{Tree, window_at}
 use Rattle.tk_app.specs.Destroy.{destroy_meaning}
 use Rattle.tk_app.specs.Seen.{Seen}
 use Rattle.tk_app.specs.Settle.{IsSoundIn}
@@ -14,7 +14,7 @@ AreGone (number ∷ numbers) tree = (window_at number tree ≡ None) × AreGone 
 
 -- where something has ended
 abbrev pub LeavesNone : List ℕ → Outcome Seen → Type 0
-LeavesNone numbers (Ended state code text) = AreGone numbers state.shows.panel.screen.tree
+LeavesNone numbers (Ended state code text) = AreGone numbers state.shows.panel.windowing.tree
 LeavesNone numbers (OutOfSteps state) = Unit {0}
 
 -- The window that a path means, and all below it, are gone once *Destroy* of it has ended, whatever its scripts did.

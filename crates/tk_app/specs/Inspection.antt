@@ -12,19 +12,19 @@ use Rattle.tk_app.specs.Part.{Part}
 module _ {M : Type 0} where
   -- the window of a path
   abbrev pub window_of : List ℕ → Application M → Option Window
-  window_of path application = at_path path application.screen.tree
+  window_of path application = at_path path application.windowing.tree
 
   -- and its widget
   abbrev pub widget_of : List ℕ → Application M → Option Widget
-  widget_of path application = option_and_then (λ window. widget_at window.number application.screen.widgets) (window_of path application)
+  widget_of path application = option_and_then (λ window. widget_at window.number application.windowing.widgets) (window_of path application)
 
-  -- the path of the window that gets the events of keys; none once it is gone
+  -- the path of the window that gets the events of keys; `.` takes its place when it goes, and there is none once `.` is gone
   abbrev pub focus_of : Application M → Option (List ℕ)
-  focus_of application = option_map (λ window. window.path) (window_at application.input.focus application.screen.tree)
+  focus_of application = option_map (λ window. window.path) (window_at application.input.focus application.windowing.tree)
 
   -- the title
   abbrev pub title_of : Application M → Option (List ℕ)
-  title_of application = option_map (λ toplevel. toplevel.title) application.screen.toplevel
+  title_of application = option_map (λ toplevel. toplevel.title) application.windowing.toplevel
 
   -- the text of the global variable of a name, or of the element of an array that the name means, where it can be read
   abbrev pub variable_of : List ℕ → Application M → Option (List ℕ)

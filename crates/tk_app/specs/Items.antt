@@ -4,7 +4,7 @@ use Rattle.std.specs.Prelude.{ℕ, List, [], ◌∷◌, Option, Some, None, if�
 use Rattle.tcl_control.specs.declared.code.Code.TheVariants.{Normal}
 use Rattle.tcl_interp.specs.Evaluation.{Ended, and_then, with_step}
 use Rattle.tcl_interp.specs.Scripts.{out_of_global}
-use Rattle.tk_after.specs.declared.entry.Entry.{Entry}
+use Rattle.tk_after.specs.declared.waiting.WaitingScript.{WaitingScript}
 use Rattle.tk_after.specs.Timers.{entry_with, first_due, idle_ids, without}
 use Rattle.tk_packer.specs.declared.changes.PlaceChange.{PlaceChange}
 use Rattle.tk_sequences.specs.declared.event.Event.{Event}
@@ -12,24 +12,24 @@ use Rattle.tk_screen.specs.Layout.{changes_due}
 use Rattle.tk_panel.specs.Changes.{laid_out}
 use Rattle.tk_panel.specs.Panel.{Panel, is_closed, with_queue}
 use Rattle.tk_commands.specs.Ends.{with_end}
-use Rattle.tk_app.specs.Dispatch.{Continuation, global_meaning, dispatch_meaning, shown}
+use Rattle.tk_app.specs.Dispatch.{Continuation, global_meaning, dispatch_meaning, with_shown}
 
 -- a timer or an idle script leaves its table
-abbrev pub entry_taken : ℕ → Panel → Panel
-entry_taken id panel = record panel { timers = without id panel.timers }
+abbrev pub waiting_taken : ℕ → Panel → Panel
+waiting_taken id panel = record panel { timers = without id panel.timers }
 
 -- with room for so many scripts one in another
 module _ (room : ℕ) where
   -- a timer or an idle script whose step is taken leaves its table and runs at global level; an error is told
-  abbrev pub entry_meaning : ℕ → List ℕ → Continuation → Continuation
-  entry_meaning id script behind state =
-      and_then (global_meaning room script (shown (entry_taken id state.shows.panel) state))
-      (λ left code text. behind (shown (with_end (out_of_global code) text left.shows.panel) left))
+  abbrev pub waiting_meaning : ℕ → List ℕ → Continuation → Continuation
+  waiting_meaning id script behind state =
+      and_then (global_meaning room script (with_shown (waiting_taken id state.shows.panel) state))
+      (λ left code text. behind (with_shown (with_end (out_of_global code) text left.shows.panel) left))
 
   -- an idle script of a round, if it still waits
-  abbrev pub idle_meaning : ℕ → Option Entry → Continuation → Continuation
+  abbrev pub idle_meaning : ℕ → Option WaitingScript → Continuation → Continuation
   idle_meaning id None behind state = behind state
-  idle_meaning id (Some entry) behind state = with_step state (entry_meaning id entry.script behind)
+  idle_meaning id (Some entry) behind state = with_step state (waiting_meaning id entry.script behind)
 
   -- a round: of the idle scripts with these numbers those that still wait, one after another
   abbrev pub round_meaning : List ℕ → Continuation → Continuation
@@ -46,17 +46,17 @@ module _ (room : ℕ) where
   -- a layout that changes something: one act, without a step
   abbrev pub on_layout : List PlaceChange → Continuation → Continuation
   on_layout [] again state = on_idle (idle_ids state.shows.panel.timers.entries) again state
-  on_layout (change ∷ changes) again state = again (shown (laid_out state.store state.shows.panel) state)
+  on_layout (change ∷ changes) again state = again (with_shown (laid_out state.store state.shows.panel) state)
 
   -- the timer that is due, the one that was due first
-  abbrev pub on_timer : Option Entry → Continuation → Continuation
-  on_timer None again state = on_layout (changes_due state.shows.panel.screen state.store) again state
-  on_timer (Some entry) again state = with_step state (entry_meaning entry.id entry.script again)
+  abbrev pub on_timer : Option WaitingScript → Continuation → Continuation
+  on_timer None again state = on_layout (changes_due state.shows.panel.windowing state.store) again state
+  on_timer (Some entry) again state = with_step state (waiting_meaning entry.id entry.script again)
 
   -- the first of the events that are queued
   abbrev pub on_queue : List Event → Continuation → Continuation
   on_queue [] again state = on_timer (first_due state.shows.panel.moment state.shows.panel.timers.entries) again state
-  on_queue (event ∷ events) again state = dispatch_meaning room event again (shown (with_queue events state.shows.panel) state)
+  on_queue (event ∷ events) again state = dispatch_meaning room event again (with_shown (with_queue events state.shows.panel) state)
 
   -- the first item that exists, and what comes again behind it; with no item all is done
   abbrev pub item_meaning : Continuation → Continuation

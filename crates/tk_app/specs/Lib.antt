@@ -1,6 +1,7 @@
 -- What the contracts cite.
 pub mod Application
 pub mod Begun
+pub mod Course
 pub mod Destroy
 pub mod Dispatch
 pub mod Dues

@@ -1,4 +1,4 @@
--- Meaning. The commands of an application and the course of its jobs, as its scripts see them.
+-- Meaning. The commands of an application, as its scripts see them.
 use Rattle.std.specs.Prelude.{ℕ, List, [], ◌∷◌, Option, Some, None, option_map, Ok, Err}
 use Rattle.tcl_vars.specs.Store.{Store}
 use Rattle.tcl_control.specs.declared.code.Code.TheVariants.{Normal, Error}
@@ -6,37 +6,20 @@ use Rattle.tcl_interp.specs.declared.tasks.Act.{Act}
 use Rattle.tcl_interp.specs.declared.tasks.Act.TheVariants.{Done}
 use Rattle.tcl_interp.specs.Outside.{Outside, Told}
 use Rattle.tcl_interp.specs.declared.job.Task.{Task}
-use Rattle.tcl_interp.specs.Course.{Course}
 use Rattle.tcl_interp.specs.Tasks.{outside_of}
 use Rattle.tk_alias.specs.Replies.{Answer}
 use Rattle.tk_panel.specs.declared.job.Job.{Job}
 use Rattle.tk_panel.specs.Panel.{Panel}
 use Rattle.tk_commands.specs.Calls.{calls as panel_calls}
-use Rattle.tk_commands.specs.Course.{ended as panel_ended, job_started as panel_started, look as panel_look}
-use Rattle.tk_app.specs.Seen.{Meaning, Seen, served_by, with_panel}
-
--- ── jobs ──
-
--- what becomes of the panel, which is all that changes; the moment stays
-abbrev pub of_panel : {T : Type 0} → Seen → Panel × T → Seen × T
-of_panel seen there = (with_panel there.0 seen, there.1)
-
--- steps: the course of jobs is that of panels
-abbrev pub course : Course Seen Job
-course = record {
-  look = λ seen store job. of_panel seen (panel_look seen.panel store job);
-  start = λ seen store job. of_panel seen (panel_started seen.panel store job);
-  ended = λ code text seen job. of_panel seen (panel_ended code text seen.panel job);
-}
-
--- ── commands ──
+pub use Rattle.tk_app.specs.Course.{course, of_panel}
+use Rattle.tk_app.specs.Seen.{Meaning, Seen, served_by, seen_with_panel}
 
 abbrev pub Does : Type 0
 Does = Told Seen (Task Job)
 
 -- what a command of the panel does
 abbrev pub by_panel : Seen → Told Panel (Task Job) → Does
-by_panel seen told = record { shows = with_panel told.shows seen; store = told.store; act = told.act }
+by_panel seen told = record { shows = seen_with_panel told.shows seen; store = told.store; act = told.act }
 
 abbrev pub act_of : Answer → Act (Task Job)
 act_of (Ok text) = Done Normal text
@@ -56,7 +39,7 @@ called_as None words seen store = by_panel seen (panel_calls seen.panel store wo
 abbrev pub calls : Seen → Store → List (List ℕ) → Does
 calls seen store words = called_as (alias_act seen.serves words) words seen store
 
--- All that scripts call, with the tasks by which jobs go on. The commands that begin a job answer its task, whose way leads through files of steps; what
--- each of them comes to, `Begun` says as an equation, so read on there.
+-- All that scripts call, with the tasks by which jobs go on (`Course`: steps). The commands that begin a job answer its task, whose way leads through files of
+-- steps; what each of them comes to, `Begun` says as an equation, so read on there.
 abbrev pub outside : Outside Seen (Task Job)
 outside = outside_of course calls

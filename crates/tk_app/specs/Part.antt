@@ -1,4 +1,4 @@
--- Meaning, for who runs applications turn by turn (`Shared`, `AppView`, a host's turns): a part, an application with what is under way in it, and what it
+-- Steps. For who runs applications turn by turn (`Shared`, `AppView`, a host's turns): a part, an application with what is under way in it, and what it
 -- comes to once that is done. What is under way is the interpreter's (`Work`, `Finish` of tcl_interp: steps). What becomes of an application by itself
 -- needs no part, and stands in `Moments`.
 use Rattle.std.specs.Prelude.{◌≡◌, ℕ, ◌-◌, Bool, true, false, List, [], ◌∷◌}

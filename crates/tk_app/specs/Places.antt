@@ -7,22 +7,22 @@ use Rattle.tk_packer.specs.declared.packed.Packed.{Packed}
 use Rattle.tk_packer.specs.declared.request.Request.{Request}
 use Rattle.tk_packer.specs.declared.shape.Shape.{Shape}
 use Rattle.tk_packer.specs.Asked.{Sizes, requests_of, size_asked, sizes_asked}
-use Rattle.tk_packer.specs.Layout.{cavity_of, layout, moved, whole_of}
+use Rattle.tk_packer.specs.Layout.{cavity_of, layout, counted_outside, whole_of}
 use Rattle.tk_packer.specs.Packs.{slaves_of}
 use Rattle.tk_packer.specs.Parcels.{arrangement}
 
 -- the place that a list of places has for the window with a number
-abbrev pub place_of : List Shape → List (Option Rect) → ℕ → Option Rect
-place_of [] places number = None
-place_of (shape ∷ shapes) [] number = None
-place_of (shape ∷ shapes) (place ∷ places) number = if shape.number == number then place else place_of shapes places number
+abbrev pub place_by_number : List Shape → List (Option Rect) → ℕ → Option Rect
+place_by_number [] places number = None
+place_by_number (shape ∷ shapes) [] number = None
+place_by_number (shape ∷ shapes) (place ∷ places) number = if shape.number == number then place else place_by_number shapes places number
 
 -- Where a slave of a master lies, by its place among the slaves: where the arrangement of the room inside the master's border has it. It isn't mapped
 -- where the master isn't.
-abbrev pub place_in : Shape → List Request → ℕ → Option Rect → Option Rect
-place_in master requests k None = None
-place_in master requests k (Some rect) =
-    option_map (moved master.border) (option_and_then (λ place. place) (slice_get (arrangement (cavity_of rect master.border) requests) k))
+abbrev pub place_by_master : Shape → List Request → ℕ → Option Rect → Option Rect
+place_by_master master requests k None = None
+place_by_master master requests k (Some rect) =
+    option_map (counted_outside master.border) (option_and_then (λ place. place) (slice_get (arrangement (cavity_of rect master.border) requests) k))
 
 module _ (slaves : ℕ → List Packed) (shapes : List Shape) where
   -- Each window stands once, before those that are packed in it, and is packed once at most.
@@ -42,18 +42,18 @@ module _ (slaves : ℕ → List Packed) (shapes : List Shape) where
         (i : ℕ) (shape : Shape) → slice_get shapes i ≡ Some shape
         → lookup (nat_eq shape.number) sizes ≡ Some (size_asked shape (requests_of sizes (slaves shape.number)))
     -- the main window, the first, fills the application's rectangle
-    pub main : (shape : Shape) → slice_get shapes 0 ≡ Some shape → place_of shapes places shape.number ≡ Some (whole_of size)
+    pub main : (shape : Shape) → slice_get shapes 0 ≡ Some shape → place_by_number shapes places shape.number ≡ Some (whole_of size)
     -- one that is packed lies where its master has it
     pub packed :
         (i j k : ℕ) (master slave : Shape) (packed : Packed) → slice_get shapes i ≡ Some master → slice_get shapes j ≡ Some slave
         → slice_get (slaves master.number) k ≡ Some packed → packed.number ≡ slave.number
-        → place_of shapes places slave.number ≡ place_in master (requests_of sizes (slaves master.number)) k (place_of shapes places master.number)
+        → place_by_number shapes places slave.number ≡ place_by_master master (requests_of sizes (slaves master.number)) k (place_by_number shapes places master.number)
     -- any other isn't mapped
     pub loose :
         (j : ℕ) (shape : Shape) → slice_get shapes (suc j) ≡ Some shape
         → ((i k : ℕ) (master : Shape) (packed : Packed) → slice_get shapes i ≡ Some master → slice_get (slaves master.number) k ≡ Some packed
         → packed.number ≢ shape.number)
-        → place_of shapes places shape.number ≡ None
+        → place_by_number shapes places shape.number ≡ None
 
 -- the layout of windows, from nothing, is this
 abbrev pub LiesByMasters : Type 0

@@ -26,4 +26,4 @@ head_line name state steps = codes "app " ++ name ++ codes " " ++ state_name sta
 unfoldable pub section : {M : Type 0} → Application M → List ℕ
 section application =
     head_line application.name application.state application.steps ++ flat_map transcript_line application.transcript ++ codes "tree\n"
-    ++ tree_lines application.screen application.store ++ codes "timers\n" ++ timer_lines application.timers.entries ++ codes "done\n"
+    ++ tree_lines application.windowing application.store ++ codes "timers\n" ++ timer_lines application.timers.entries ++ codes "done\n"

@@ -19,7 +19,7 @@ use Rattle.tk_commands.specs.Course.{event_job}
 use Rattle.tk_commands.specs.Ends.{with_end}
 use Rattle.tk_commands.specs.Moment.{destroying, settling as settling_to}
 use Rattle.tk_app.specs.Destroy.{destroy_meaning}
-use Rattle.tk_app.specs.Dispatch.{Continuation, global_meaning, dispatch_meaning, in_panel, shown}
+use Rattle.tk_app.specs.Dispatch.{Continuation, global_meaning, dispatch_meaning, in_panel, with_shown}
 use Rattle.tk_app.specs.Items.{item_meaning, round_meaning, settle_item}
 use Rattle.tk_app.specs.Jobs.{meaning}
 use Rattle.tk_app.specs.Seen.{Seen}
@@ -51,7 +51,7 @@ module _ (settle : Continuation) where
 -- The windows of the state are numbered as they were made, each behind its parent. Those of each application in the tables are: it is the invariant of
 -- `Windows` in tk_tree, which the clause `sound` of `Windows::count` tells.
 abbrev pub IsSoundIn : State Seen → Type 0
-IsSoundIn state = IsSound state.shows.panel.screen.tree
+IsSoundIn state = IsSound state.shows.panel.windowing.tree
 
 -- *Settle*'s equation: it is the first item that exists, and *Settle* again.
 abbrev pub IsSettle : Continuation → Type 0
@@ -78,17 +78,17 @@ OnlyUpdate = (room : ℕ) (other : Continuation) → ((state : State Seen) → I
 
 -- a layout, and the empty answer
 abbrev pub laid : Continuation
-laid state = Ended (shown (laid_out state.store state.shows.panel) state) Normal []
+laid state = Ended (with_shown (laid_out state.store state.shows.panel) state) Normal []
 
 abbrev pub UpdatesIdleTasks : Type 0
 UpdatesIdleTasks = (room : ℕ) (state : State Seen)
     → meaning room (settling_to IdleTasks) state
-    ≡ (let first : Panel = laid_out state.store state.shows.panel in round_meaning room (idle_ids first.timers.entries) laid (shown first state))
+    ≡ (let first : Panel = laid_out state.store state.shows.panel in round_meaning room (idle_ids first.timers.entries) laid (with_shown first state))
 
 -- *Dispatch*: once the scripts of an event are chosen, the job of running them, with what is behind it.
 abbrev pub Dispatches : Type 0
 Dispatches = (room : ℕ) (event : Event) (rest : Rest) (state : State Seen)
-    → (let there : Panel × List (List ℕ) = chosen event state.shows.panel in meaning room (event_job there.1 rest) (shown there.0 state))
+    → (let there : Panel × List (List ℕ) = chosen event state.shows.panel in meaning room (event_job there.1 rest) (with_shown there.0 state))
     ≡ dispatch_meaning room event (meaning room (without_event rest)) state
 
 -- The job that `destroy` begins with these paths is *Destroy* of them.
@@ -98,7 +98,7 @@ Destroys = (room : ℕ) (paths : List (List ℕ)) (state : State Seen) → meani
 -- Once all that is to be done has been done and there is a main window, the windows lie where a layout from nothing puts them.
 abbrev pub EndsLaidOut : Type 0
 EndsLaidOut = (state after : State Seen) (code : Code) (text : List ℕ) → settle_meaning state ≡ Ended after code text
-    → IsSoundIn after → is_closed after.shows.panel ≡ false → changes_due after.shows.panel.screen after.store ≡ []
+    → IsSoundIn after → is_closed after.shows.panel ≡ false → changes_due after.shows.panel.windowing after.store ≡ []
 
 -- Then *Settle* again does nothing: there is no main window, or nothing waits and no layout changes anything.
 abbrev pub SettlesTwice : Type 0

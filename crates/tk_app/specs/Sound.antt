@@ -27,19 +27,19 @@ KeepsSound = (room : ℕ) (state : State Seen) → IsSoundIn state
 
 -- so they are while it runs; one that is closed or out of steps does nothing more
 abbrev pub RunsSound : {M : Type 0} → Application M → Type 0
-RunsSound application = application.state ≡ Running → IsSound application.screen.tree
+RunsSound application = application.state ≡ Running → IsSound application.windowing.tree
 
 module _ {M : Type 0} (answer : M → Meaning) where
   -- at first, once its script has run, once it was given an event, and once it has settled
   pub record StaysSound : Type 0 where
     pub fresh : (spec : Spec M) → RunsSound (fresh spec)
-    pub started : (moment : ℕ) (script : List ℕ) (application : Application M) → IsSound application.screen.tree → RunsSound (started answer moment script application)
+    pub started : (moment : ℕ) (script : List ℕ) (application : Application M) → IsSound application.windowing.tree → RunsSound (started answer moment script application)
     pub delivered : (event : LocalEvent) (application : Application M) → RunsSound application → RunsSound (delivered event application)
     pub settled : (moment : ℕ) (application : Application M) → RunsSound application → RunsSound (settled answer moment application)
 
   -- Whatever meets the equation of *Settle* makes the same of an application: of one that begins, and of one that runs on.
   pub record BySettle : Type 0 where
-    pub started : (settle : Continuation) → IsSettle settle → (moment : ℕ) (script : List ℕ) (application : Application M) → IsSound application.screen.tree
+    pub started : (settle : Continuation) → IsSettle settle → (moment : ℕ) (script : List ℕ) (application : Application M) → IsSound application.windowing.tree
         → started answer moment script application ≡ started_by answer settle moment script application
     pub settled : (settle : Continuation) → IsSettle settle → (moment : ℕ) (application : Application M) → RunsSound application
         → settled answer moment application ≡ settled_by answer settle moment application

@@ -21,22 +21,22 @@ module _ {P : Type 0} (next_due : P → Option ℕ) (settled : ℕ → P → P) 
   settled_if (Some due) moment part = if due == moment then settled moment part else part
 
   -- a part after a stage at a moment: it has done what was due of it then, and is as it was where nothing was
-  abbrev pub settled_at : ℕ → P → P
-  settled_at moment part = settled_if (next_due part) moment part
+  abbrev pub settled_if_due_at : ℕ → P → P
+  settled_if_due_at moment part = settled_if (next_due part) moment part
 
   -- all of them
   abbrev pub stage_at : ℕ → List P → List P
-  stage_at moment parts = map (settled_at moment) parts
+  stage_at moment parts = map (settled_if_due_at moment) parts
 
   -- when the first of them is due
-  abbrev pub first_due : List P → Option ℕ
-  first_due [] = None
-  first_due (part ∷ parts) = earlier (next_due part) (first_due parts)
+  abbrev pub first_moment_due : List P → Option ℕ
+  first_moment_due [] = None
+  first_moment_due (part ∷ parts) = earlier (next_due part) (first_moment_due parts)
 
   module _ (steps_left : P → ℕ) where
     -- how many steps a part takes in a stage at a moment
     abbrev pub used_at : ℕ → P → ℕ
-    used_at moment part = steps_left part - steps_left (settled_at moment part)
+    used_at moment part = steps_left part - steps_left (settled_if_due_at moment part)
 
     abbrev pub turns_at : ℕ → ℕ → List P → List Turn
     turns_at slice moment parts = turns_of slice (map (used_at moment) parts)

@@ -3,7 +3,7 @@
 use Rattle.std.specs.Prelude.{◌≡◌, ◌<◌, ◌⊎◌, ℕ, zero, suc, ◌-◌, ◌++◌, List, [], ◌∷◌, sum_by, Option, Some}
 use Rattle.tk_app.specs.declared.turns.Turn.{Turn}
 use Rattle.tk_app.specs.Passing.{brought, pass}
-use Rattle.tk_app.specs.Stages.{IsPast, first_due, stage_at, turns_at}
+use Rattle.tk_app.specs.Stages.{IsPast, first_moment_due, stage_at, turns_at}
 
 -- a number is one of these
 abbrev pub IsAmong : ℕ → List ℕ → Type 0
@@ -29,12 +29,12 @@ module _ {P : Type 0} (next_due : P → Option ℕ) (settled : ℕ → P → P) 
 
     -- all parts, passed from stage to stage up to a last moment
     abbrev pub passed_together : ℕ → List P → List P
-    passed_together last parts = pass (first_due next_due settled) (stage_at next_due settled) (λ due there later. later) (λ there. there) last (sum_by weight parts) parts
+    passed_together last parts = pass (first_moment_due next_due settled) (stage_at next_due settled) (λ due there later. later) (λ there. there) last (sum_by weight parts) parts
 
     -- the turns of all stages up to a last moment, one stage after another
     abbrev pub turns_to : (P → ℕ) → ℕ → ℕ → List P → List Turn
     turns_to steps_left slice last parts =
-        pass (first_due next_due settled) (stage_at next_due settled) (λ due there later. turns_at next_due settled steps_left slice due there ++ later) (λ there. []) last (sum_by weight parts) parts
+        pass (first_moment_due next_due settled) (stage_at next_due settled) (λ due there later. turns_at next_due settled steps_left slice due there ++ later) (λ there. []) last (sum_by weight parts) parts
 
   -- ── the same, by what each part does by itself ──
 
@@ -54,7 +54,7 @@ module _ {P : Type 0} (next_due : P → Option ℕ) (settled : ℕ → P → P) 
 
     -- the moments of the stages
     abbrev pub stage_moments : ℕ → List P → List ℕ
-    stage_moments last parts = pass (first_due next_due settled) (stage_at next_due settled) (λ due there later. due ∷ later) (λ there. []) last (sum_by weight parts) parts
+    stage_moments last parts = pass (first_moment_due next_due settled) (stage_at next_due settled) (λ due there later. due ∷ later) (λ there. []) last (sum_by weight parts) parts
 
     -- a moment is due of one of the parts by itself
     abbrev pub IsOwnOfOne : ℕ → ℕ → List P → Type 0

@@ -1,4 +1,4 @@
--- Meaning, for who runs applications turn by turn (`Shared`, `AppView`): all applications side by side, and what a turn of one of them makes of all. What
+-- Steps. For who runs applications turn by turn (`Shared`, `AppView`): all applications side by side, and what a turn of one of them makes of all. What
 -- becomes of an application by itself needs none of it, and stands in `Moments`.
 use Rattle.std.specs.Prelude.{◌≡◌, ◌≢◌, ◌⊎◌, ℕ, ◌+◌, ◌-◌, ◌≤◌, ◌<◌, Bool, List, [], ◌∷◌, ◌++◌, Some, min, slice_get, slice_set}
 use Rattle.tcl_vars.specs.Store.{Store}
@@ -16,7 +16,7 @@ use Rattle.tk_panel.specs.declared.tables.Tables.{Tables}
 use Rattle.tk_panel.specs.Fresh.{nothing}
 use Rattle.tk_panel.specs.Panel.{Panel, panel_of}
 use Rattle.tk_app.specs.declared.turns.Turn.{Turn}
-use Rattle.tk_app.specs.Rounds.{entry}
+use Rattle.tk_app.specs.Rounds.{one_turn}
 use Rattle.tk_base.specs.declared.budget.Budget.{Budget}
 use Rattle.tk_app.specs.declared.runner.Progress.{Progress}
 use Rattle.tk_app.specs.declared.runner.Progress.TheVariants.{Resting, Going, Lost}
@@ -76,7 +76,7 @@ application_of panel program = record {
   aliases = program.aliases;
   store = program.store;
   commands = program.commands;
-  screen = panel.screen;
+  windowing = panel.windowing;
   bindings = panel.bindings;
   virtuals = panel.virtuals;
   history = panel.history;
@@ -128,7 +128,7 @@ pub record ChangesOnly {M : Type 0} (steps slot : ℕ) (old new : Applications M
   pub budget : after.application.budget ≡ before.application.budget
   pub fewer : after.application.steps ≤ before.application.steps
   pub most : before.application.steps ≤ after.application.steps + steps
-  pub told : new.turns ≡ old.turns ++ entry slot (before.application.steps - after.application.steps)
+  pub told : new.turns ≡ old.turns ++ one_turn slot (before.application.steps - after.application.steps)
   pub moment : new.moment ≡ old.moment
 
 -- a turn of the part in a slot
@@ -138,7 +138,7 @@ pub record SettlesSlot {M : Type 0} (answer : M → Meaning) (steps slot : ℕ) 
   pub was : slice_get old.parts slot ≡ Some before
   pub changed : new.parts ≡ slice_set old.parts slot after
   pub turn : TakesTurn answer old.moment steps end (settling_begun before) after
-  pub told : new.turns ≡ old.turns ++ entry slot (min steps (needs answer old.moment (settling_begun before)))
+  pub told : new.turns ≡ old.turns ++ one_turn slot (min steps (needs answer old.moment (settling_begun before)))
   pub moment : new.moment ≡ old.moment
 
 -- settling begins in the part in a slot, where nothing is under way in it

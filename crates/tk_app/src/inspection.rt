@@ -64,7 +64,7 @@ impl<M: AliasService> Shared<M> {
 
 /// The window of a path.
 fn window<'a>(tables: &'a Tables, slot: usize, path: &str) -> Option<&'a Window>
-    ensures { option_copied result ≡ at_path path.now (panel_of slot tables.now).screen.tree }
+    ensures { option_copied result ≡ at_path path.now (panel_of slot tables.now).windowing.tree }
 {
     let windows = &tables.screen.shown().windows;
     windows.window(windows.find(slot, path)?)
@@ -72,8 +72,8 @@ fn window<'a>(tables: &'a Tables, slot: usize, path: &str) -> Option<&'a Window>
 
 /// Its widget.
 fn widget<'a>(tables: &'a Tables, slot: usize, path: &str) -> Option<&'a Widget>
-    ensures { option_copied result ≡ option_and_then (λ window. widget_at window.number (panel_of slot tables.now).screen.widgets)
-        (at_path path.now (panel_of slot tables.now).screen.tree) }
+    ensures { option_copied result ≡ option_and_then (λ window. widget_at window.number (panel_of slot tables.now).windowing.widgets)
+        (at_path path.now (panel_of slot tables.now).windowing.tree) }
 {
     let screen = tables.screen.shown();
     screen.widget(screen.windows.find(slot, path)?)
@@ -82,7 +82,7 @@ fn widget<'a>(tables: &'a Tables, slot: usize, path: &str) -> Option<&'a Widget>
 /// The path of the window that gets the events of keys.
 fn focus(tables: &Tables, slot: usize) -> Option<&Text>
     ensures { option_copied result ≡ option_map (λ window. window.path)
-        (window_at (panel_of slot tables.now).input.focus (panel_of slot tables.now).screen.tree) }
+        (window_at (panel_of slot tables.now).input.focus (panel_of slot tables.now).windowing.tree) }
 {
     let win = Win {
         owner: slot,
@@ -93,7 +93,7 @@ fn focus(tables: &Tables, slot: usize) -> Option<&Text>
 
 /// The title.
 fn title(tables: &Tables, slot: usize) -> Option<&Text>
-    ensures { option_copied result ≡ option_map (λ toplevel. toplevel.title) (panel_of slot tables.now).screen.toplevel }
+    ensures { option_copied result ≡ option_map (λ toplevel. toplevel.title) (panel_of slot tables.now).windowing.toplevel }
 {
     Some(&tables.screen.shown().toplevel(slot)?.title)
 }

@@ -63,7 +63,8 @@ fn call<M: AliasService>(
 
 impl<M: AliasService> Jobs for AppTables<'_, M> {
     ghost use Rattle.std.specs.Prelude.{ℕ, List};
-    ghost use Rattle.tk_panel.specs.Panel.{LeftAlone, left_of, panel_of};
+    ghost use Rattle.tk_panel.specs.Others.{LeftAlone, left_of};
+    ghost use Rattle.tk_panel.specs.Panel.{panel_of};
     ghost use Rattle.tk_app.specs.Outside.{course as own_course};
     ghost use Rattle.tk_app.specs.Seen.{Seen, meanings};
 
@@ -98,7 +99,8 @@ impl<M: AliasService> Jobs for AppTables<'_, M> {
 impl<M: AliasService> Tasks for AppTables<'_, M> {
     ghost use Rattle.std.specs.Prelude.{ℕ, List};
     ghost use Rattle.tcl_interp.specs.Falls.{jobs_fall};
-    ghost use Rattle.tk_panel.specs.Panel.{LeftAlone, left_of, panel_of};
+    ghost use Rattle.tk_panel.specs.Others.{LeftAlone, left_of};
+    ghost use Rattle.tk_panel.specs.Panel.{panel_of};
     ghost use Rattle.tk_app.specs.Outside.{calls, course, outside as own_commands};
     ghost use Rattle.tk_app.specs.Seen.{Seen, meanings};
 

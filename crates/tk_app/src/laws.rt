@@ -86,8 +86,8 @@ pub fn stays_sound<M: AliasMeaning>()
     ensures { StaysSound M.answer }
 {}
 
-/// Where no alias serves their names, commands do what these equations say: `update` and `update idletasks`, `destroy`, an `event generate` that comes at
-/// once, a class command that selects in a listbox, and those that invoke a widget's command.
+/// Where no alias serves their names, commands do what these equations say, by whatever name they are called: `update` and `update idletasks`, `destroy`, an
+/// `event generate` that comes at once, a class command that selects in a listbox, and those that invoke a widget's command.
 pub fn commands_begin_jobs()
     ensures update { UpdateBegins }
     ensures update_is { UpdateIs }

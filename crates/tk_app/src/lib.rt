@@ -27,7 +27,7 @@ pub use layout_laws::lies_by_masters;
 pub use shared::Shared;
 pub use size::Size;
 pub use state::{AppEnd, AppState};
-pub use tcl_interp::CommandPlace;
+pub use tcl_interp::{CommandPlace, ErrorNote};
 pub use tk_alias::{
     Alias, AliasCode, AliasMeaning, AliasReply, AliasService, Aliases, Closure, NoAlias,
 };

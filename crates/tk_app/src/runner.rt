@@ -8,7 +8,7 @@ use crate::state::{AppEnd, AppState};
 use crate::turn::run;
 use std::alloc::{AllocError, Global};
 use std::marker::Model;
-use tcl_interp::{CommandPlace, Interp, SliceEnd, Task};
+use tcl_interp::{CommandPlace, ErrorNote, Interp, SliceEnd, Task};
 use tcl_text::Text;
 use tcl_vars::Scopes;
 use tk_alias::{AliasService, Aliases};
@@ -36,6 +36,7 @@ pub struct Runner<M: AliasService> {
     interp: Interp<Task<Job>>,
     state: AppState,
     progress: Progress,
+    stopped: Option<u64>,
 }
 
 impl<M: AliasService> Model for Runner<M> {
@@ -94,7 +95,8 @@ fn end_as(state: AppState) -> AppEnd
 
 impl<M: AliasService> Runner<M> {
     ghost use Rattle.std.specs.Prelude.{◌≡◌, ◌≢◌, ◌<◌, ◌≤◌, ◌+◌, ◌↔◌, ◌⊎◌, IfOk, IsTrue, OnErr, OnOk};
-    ghost use Rattle.tk_panel.specs.Panel.{others_of, panel_of};
+    ghost use Rattle.tk_panel.specs.Others.{others_of};
+    ghost use Rattle.tk_panel.specs.Panel.{panel_of};
     ghost use Rattle.tk_app.specs.declared.state.AppState.TheVariants.{Running};
     ghost use Rattle.tk_app.specs.Moments.{granted};
     ghost use Rattle.tk_app.specs.Part.{Rests, is_under_way, settling_as};
@@ -124,6 +126,7 @@ impl<M: AliasService> Runner<M> {
             interp,
             state: AppState::Running,
             progress: Progress::Going,
+            stopped: None,
         })
     }
 
@@ -166,6 +169,16 @@ impl<M: AliasService> Runner<M> {
     /// The commands in which it stood as it ran out of steps last, the innermost first.
     pub fn stopped_at(&self) -> &[CommandPlace] {
         self.interp.stopped_at()
+    }
+
+    /// The errors that its interpreter noted, notes for people.
+    pub fn error_notes(&self) -> &[ErrorNote] {
+        self.interp.error_notes()
+    }
+
+    /// The moment at which it ran out of steps last, a note for people.
+    pub fn stopped_moment(&self) -> Option<u64> {
+        self.stopped
     }
 
     /// Whether it has something to do that has begun.
@@ -254,6 +267,7 @@ impl<M: AliasService> Runner<M> {
             AppEnd::Stopped => {
                 self.progress = Progress::Resting;
                 self.state = AppState::Exhausted;
+                self.stopped = Some(tables.clock.moment());
                 Ok(AppEnd::Stopped)
             }
         }
@@ -271,6 +285,7 @@ impl<M: AliasService> Drop for Runner<M> {
             interp: _,
             state: _,
             progress: _,
+            stopped: _,
         } = self;
     }
 }

@@ -10,7 +10,7 @@ use crate::state::AppState;
 use crate::view::AppView;
 use std::alloc::{AllocError, Global};
 use std::marker::Model;
-use tcl_interp::CommandPlace;
+use tcl_interp::{CommandPlace, ErrorNote};
 use tcl_text::Text;
 use tk_alias::{AliasService, Aliases};
 use tk_base::Budget;
@@ -166,6 +166,21 @@ impl<M: AliasService> Shared<M> {
             Some(runner) => Some(runner.stopped_at()),
             None => None,
         }
+    }
+
+    /// The errors that the interpreter of the application in a slot noted, each with the commands in which it came about; `None` where the slot has no application.
+    /// Notes for people, on which nothing that runs hangs. It takes no memory.
+    pub fn error_notes(&self, slot: usize) -> Option<&[ErrorNote]> {
+        match self.runners.get(slot) {
+            Some(runner) => Some(runner.error_notes()),
+            None => None,
+        }
+    }
+
+    /// The moment, in milliseconds, at which the application in a slot ran out of steps last; `None` where it never did, and where the slot has none. A note for
+    /// people, on which nothing that runs hangs. It takes no memory.
+    pub fn stopped_moment(&self, slot: usize) -> Option<u64> {
+        self.runners.get(slot)?.stopped_moment()
     }
 
     /// The section of an application, in bytes: what it wrote, its windows, and what it has waiting.

@@ -3,8 +3,9 @@ ghost use Rattle.std.specs.Prelude.{◌≡◌, ◌≢◌, ◌<◌, ◌≤◌, �
 ghost use Rattle.std.specs.Vec.{vec_capacity, vec_len};
 ghost use Rattle.tcl_interp.specs.Finish.{Broken, Idle, finish};
 ghost use Rattle.tcl_interp.specs.Interp.{LeavesRest, Reaches, budget_of, left_of, rest_of, state_of};
-ghost use Rattle.tk_panel.specs.Panel.{others_of, panel_of};
-ghost use Rattle.tk_app.specs.Rounds.{entry};
+ghost use Rattle.tk_panel.specs.Others.{others_of};
+ghost use Rattle.tk_panel.specs.Panel.{panel_of};
+ghost use Rattle.tk_app.specs.Rounds.{one_turn};
 ghost use Rattle.tk_app.specs.Outside.{outside};
 ghost use Rattle.tk_app.specs.Moments.{delivered, granted};
 ghost use Rattle.tk_app.specs.Part.{settling_begun};
@@ -87,7 +88,7 @@ pub fn run<M: AliasService>(
 /// Adds a turn, for which there is room, if it took steps.
 fn push_turn(turns: &mut Vec<Turn>, slot: usize, steps: u64)
     requires { vec_len turns.old + 1 ≤ vec_capacity turns.old }
-    ensures { turns.new.items ≡ turns.old.items ++ entry slot steps }
+    ensures { turns.new.items ≡ turns.old.items ++ one_turn slot steps }
 {
     if steps > 0 {
         match turns.push(Turn { slot, steps }) {
@@ -108,7 +109,7 @@ pub fn take_turn<M: AliasService>(
     requires { 0 < steps }
     ensures turn { IfOk result (λ end. TakesTurn M.answer tables.old.clock steps end (settling_begun (part_of (panel_of slot tables.old) runner.old))
         (part_of (panel_of slot tables.new) runner.new)) }
-    ensures told { turns.new.items ≡ turns.old.items ++ entry slot (runner.old.steps - runner.new.steps) }
+    ensures told { turns.new.items ≡ turns.old.items ++ one_turn slot (runner.old.steps - runner.new.steps) }
     ensures budget { runner.new.budget ≡ runner.old.budget }
     ensures fewer { runner.new.steps ≤ runner.old.steps }
     ensures most { runner.old.steps ≤ runner.new.steps + steps }

@@ -1,10 +1,30 @@
 -- Meaning. Keys by their names and by the characters that they type. A key is its number in the table of names.
-use Rattle.std.specs.Prelude.{ℕ, ◌+◌, ◌-◌, ◌&&◌, nat_le, if◌then◌else◌, List, [], ◌∷◌, Option, Some, None, position, slice_get, unwrap_or}
+use Rattle.std.specs.Prelude.{ℕ, ◌+◌, ◌-◌, ◌==◌, ◌&&◌, nat_le, if◌then◌else◌, List, [], ◌∷◌, ◌++◌, Option, Some, None, position, slice_get, unwrap_or, codes}
+use Rattle.std.specs.List.{slice_split}
 use Rattle.std.specs.Str.{bytes_eq}
 use Rattle.std.specs.Str.Lines.{lines}
 use Rattle.tk_base.specs.declared.names.TheConstants.{NAMES}
 
--- the names in the table, a line each
+-- names that stand in a text, a blank between each two
+abbrev pub names_in : List ℕ → List (List ℕ)
+names_in text = slice_split (λ byte. byte == 32) text
+
+-- the names of the keys (keysyms(n)), in their order
+unfoldable pub all_names : List (List ℕ)
+all_names =
+    names_in (codes "space exclam quotedbl numbersign dollar percent ampersand apostrophe parenleft parenright asterisk plus comma minus period slash")
+    ++ names_in (codes "0 1 2 3 4 5 6 7 8 9")
+    ++ names_in (codes "colon semicolon less equal greater question at")
+    ++ names_in (codes "A B C D E F G H I J K L M N O P Q R S T U V W X Y Z")
+    ++ names_in (codes "bracketleft backslash bracketright asciicircum underscore grave")
+    ++ names_in (codes "a b c d e f g h i j k l m n o p q r s t u v w x y z")
+    ++ names_in (codes "braceleft bar braceright asciitilde")
+    ++ names_in (codes "Return Tab BackSpace Escape Delete")
+    ++ names_in (codes "Left Right Up Down Home End Prior Next Insert")
+    ++ names_in (codes "F1 F2 F3 F4 F5 F6 F7 F8 F9 F10 F11 F12")
+    ++ names_in (codes "Shift_L Shift_R Control_L Control_R Alt_L Alt_R Caps_Lock")
+
+-- the names in the table, a line each: these are all of them, as the law `table_has_all_names` says
 unfoldable pub key_names : List (List ℕ)
 key_names = lines NAMES.now
 
@@ -27,7 +47,7 @@ control_characters = 13 ∷ 9 ∷ 8 ∷ 27 ∷ 127 ∷ []
 abbrev pub character_of : ℕ → Option ℕ
 character_of key = if nat_le key 94 then Some (key + 32) else slice_get control_characters (key - 95)
 
--- the keys that modify others, as the law of their names tells
+-- the keys that modify others: which names these numbers have says the law `modifiers_have_their_names`
 abbrev pub shift_left : ℕ
 shift_left = 121
 

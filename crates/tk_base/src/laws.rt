@@ -1,6 +1,12 @@
 //! Laws over the definitions. Each is the contract of a function that does nothing.
 ghost use Rattle.std.specs.Prelude.{◌≡◌, ◌<◌, ℕ, List, [], ◌∷◌, Some, codes, map};
-ghost use Rattle.tk_base.specs.Names.{alt_left, alt_right, caps_lock, control_left, control_right, key_named, name_of, shift_left, shift_right};
+ghost use Rattle.tk_base.specs.Names.{all_names, alt_left, alt_right, caps_lock, control_left, control_right, key_named, key_names, name_of, shift_left, shift_right};
+
+/// The names in the table are those of the keys, in their order.
+#[tactic(auto, unfolding(crate::specs::Names::key_names, crate::specs::Names::all_names))]
+pub fn table_has_all_names()
+    ensures { key_names ≡ all_names }
+{}
 
 /// The key of a key's name is that key: no two keys have one name.
 pub fn names_differ()

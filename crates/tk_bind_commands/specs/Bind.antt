@@ -10,7 +10,7 @@ use Rattle.tk_patterns.specs.Own.{refuses, script_of, sequences_of, with_binding
 use Rattle.tk_sequences.specs.declared.sequence.Sequence.{Sequence}
 use Rattle.tk_sequences.specs.Reading.{parsed}
 use Rattle.tk_sequences.specs.Writing.{canonical}
-use Rattle.tk_tree.specs.Own.{Own}
+use Rattle.tk_tree.specs.Own.{Tree}
 
 -- what the application has bound after the command, and the command's answer
 abbrev pub Told : Type 0
@@ -21,7 +21,7 @@ Told = List Binding × Answer
 abbrev pub sequences_told : List ℕ → List Binding → Answer
 sequences_told tag own = answers (list_form (map canonical (sequences_of tag own)))
 
-abbrev pub list_words : Own → List ℕ → List Binding → Answer
+abbrev pub list_words : Tree → List ℕ → List Binding → Answer
 list_words windows word own = do
   tag ← tag_or_error windows word
   sequences_told tag own
@@ -29,7 +29,7 @@ list_words windows word own = do
 -- ---- bind tag sequence: the script, or nothing
 
 -- the sequence, where the tag may be one
-abbrev pub sequence_words : Own → List ℕ → List ℕ → Result Sequence (List ℕ)
+abbrev pub sequence_words : Tree → List ℕ → List ℕ → Result Sequence (List ℕ)
 sequence_words windows tag word = do
   tested ← tag_or_error windows tag
   or_sequence_fault (parsed word)
@@ -37,7 +37,7 @@ sequence_words windows tag word = do
 abbrev pub script_told : List ℕ → Sequence → List Binding → List ℕ
 script_told tag sequence own = option_map_or (λ script. script) (script_of tag sequence own) []
 
-abbrev pub script_words : Own → List ℕ → List ℕ → List Binding → Answer
+abbrev pub script_words : Tree → List ℕ → List ℕ → List Binding → Answer
 script_words windows tag word own = do
   sequence ← sequence_words windows tag word
   Ok (script_told tag sequence own)
@@ -77,18 +77,20 @@ abbrev pub with_word : List ℕ → Result Sequence (List ℕ) → List ℕ → 
 with_word tag (Err text) word own = (own, Err text)
 with_word tag (Ok sequence) word own = with_script tag sequence (answers (script_meant (script_of tag sequence own) word)) own
 
--- the same of a step that gave or refused a script, or a sequence
+-- ---- the command
+
+-- the words behind the command's name
+unfoldable pub bind_words : Tree → List (List ℕ) → List Binding → Told
+bind_words windows (tag ∷ []) own = (own, list_words windows tag own)
+bind_words windows (tag ∷ sequence ∷ []) own = (own, script_words windows tag sequence own)
+bind_words windows (tag ∷ sequence ∷ script ∷ []) own = with_word tag (sequence_words windows tag sequence) script own
+bind_words windows _ own = (own, wrong_args (codes "bind tag ?sequence? ?script?"))
+
+-- ── steps ──
+
+-- `with_script` and `with_word` of a step that gave or refused a script, or a sequence
 abbrev pub IsWithScript : List ℕ → Sequence → Result (List ℕ) Refusal → List Binding → Told → Type 0
 IsWithScript tag sequence given own told = (script : Answer) → Gives given script → told ≡ with_script tag sequence script own
 
 abbrev pub IsWithWord : List ℕ → Result Sequence Refusal → List ℕ → List Binding → Told → Type 0
 IsWithWord tag given word own told = (sequence : Result Sequence (List ℕ)) → Gives given sequence → told ≡ with_word tag sequence word own
-
--- ---- the command
-
--- the words behind the command's name
-unfoldable pub bind_words : Own → List (List ℕ) → List Binding → Told
-bind_words windows (tag ∷ []) own = (own, list_words windows tag own)
-bind_words windows (tag ∷ sequence ∷ []) own = (own, script_words windows tag sequence own)
-bind_words windows (tag ∷ sequence ∷ script ∷ []) own = with_word tag (sequence_words windows tag sequence) script own
-bind_words windows _ own = (own, wrong_args (codes "bind tag ?sequence? ?script?"))

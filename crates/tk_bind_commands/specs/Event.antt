@@ -4,7 +4,7 @@ use Rattle.std.specs.Str.{bytes_eq}
 use Rattle.tcl_text.specs.Answers.{Answer, ◌>>=◌, answers, bad_option, wrong_args}
 use Rattle.tcl_text.specs.Readings.{list_form}
 use Rattle.tk_bind_commands.specs.Words.{or_virtual_fault}
-use Rattle.tk_sequences.specs.Reading.{name_in}
+use Rattle.tk_sequences.specs.Words.{name_in}
 use Rattle.tk_virtual.specs.declared.fault.VirtualFault.{VirtualFault}
 use Rattle.tk_virtual.specs.declared.fault.VirtualFault.TheVariants.{NoMemory}
 use Rattle.tk_virtual.specs.declared.pair.Pair.{Pair}
@@ -17,11 +17,6 @@ Told = List Pair × Answer
 abbrev pub become : List Pair → Result (List Pair) (List ℕ) → Told
 become own (Ok pairs) = (pairs, Ok [])
 become own (Err text) = (own, Err text)
-
--- what is told where a change gave this fault, unless memory was refused
-abbrev pub IsRefusal : VirtualFault → Answer → Type 0
-IsRefusal fault answer = (own : List Pair) (outcome : Outcome (List Pair))
-    → (fault ≢ NoMemory → outcome ≡ Err fault) → (own, answer) ≡ become own (or_virtual_fault outcome)
 
 -- the pairs of a name and sequences are added
 unfoldable pub added_told : List ℕ → List (List ℕ) → List Pair → Told
@@ -56,3 +51,10 @@ event_words (name ∷ words) own =
     else (if bytes_eq name (codes "delete") then delete_words words own
     else (if bytes_eq name (codes "info") then (own, info_words words own)
     else (own, bad_option name)))
+
+-- ── steps ──
+
+-- what is told where a change gave this fault, unless memory was refused
+abbrev pub IsRefusal : VirtualFault → Answer → Type 0
+IsRefusal fault answer = (own : List Pair) (outcome : Outcome (List Pair))
+    → (fault ≢ NoMemory → outcome ≡ Err fault) → (own, answer) ≡ become own (or_virtual_fault outcome)

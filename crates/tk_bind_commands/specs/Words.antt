@@ -5,13 +5,13 @@ use Rattle.tcl_text.specs.declared.commands.answers.Refusal.{Refusal}
 use Rattle.tk_dispatch.specs.Dispatch.{is_live}
 use Rattle.tk_sequences.specs.declared.fault.SequenceFault.{SequenceFault}
 use Rattle.tk_sequences.specs.FaultTexts as sequence_faults
-use Rattle.tk_tree.specs.Own.{Own}
+use Rattle.tk_tree.specs.Own.{Tree}
 use Rattle.tk_virtual.specs.declared.fault.VirtualFault.{VirtualFault}
 use Rattle.tk_virtual.specs.FaultTexts as virtual_faults
 use Rattle.tk_tree.specs.Path.{bad_path}
 
 -- a binding tag that is a path must be a window's
-abbrev pub tag_or_error : Own → List ℕ → Result (List ℕ) (List ℕ)
+abbrev pub tag_or_error : Tree → List ℕ → Result (List ℕ) (List ℕ)
 tag_or_error windows tag = if is_live windows tag then Ok tag else bad_path tag
 
 -- the refusal of a sequence has its text (29, 30)

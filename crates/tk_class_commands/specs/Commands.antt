@@ -13,7 +13,7 @@ use Rattle.tk_class_commands.specs.Outcomes.{Done, done, error}
 use Rattle.tk_class_commands.specs.Requests.{target_in}
 use Rattle.tk_class_commands.specs.Table.{ClassCommand}
 use Rattle.tk_inputs.specs.Deliver.{Arrivals}
-use Rattle.tk_screen.specs.Own.{Own}
+use Rattle.tk_screen.specs.Own.{Windowing}
 
 -- commands of buttons have to do with no variables and no events
 abbrev pub button_done : Arrivals → Store → buttons.Told → Done
@@ -24,20 +24,22 @@ abbrev pub listbox_done : Store → listboxes.Told → Done
 listbox_done store there = done there.own there.arrivals store there.outcome
 
 -- what is asked of the widget with a number, at a moment
-abbrev pub asked : ℕ → ℕ → ClassRequest → Own → Arrivals → Store → Done
+abbrev pub asked : ℕ → ℕ → ClassRequest → Windowing → Arrivals → Store → Done
 asked number moment (Button request) own arrivals store = button_done arrivals store (buttons.act request number own arrivals.input)
 asked number moment (Entry request) own arrivals store = entry_asked number moment request own arrivals store
 asked number moment (Listbox request) own arrivals store = listbox_done store (listboxes.listbox_asked number moment request own arrivals)
 
-abbrev pub requested : ℕ → Result ClassTarget (List ℕ) → Own → Arrivals → Store → Done
+abbrev pub requested : ℕ → Result ClassTarget (List ℕ) → Windowing → Arrivals → Store → Done
 requested moment (Ok target) own arrivals store = asked target.number moment target.request own arrivals store
 requested moment (Err text) own arrivals store = done own arrivals store (error text)
 
--- the same of a step that gave or refused a target
-abbrev pub IsRequested : ℕ → Result ClassTarget Refusal → Own → Arrivals → Store → Done → Type 0
+-- the words behind the command's name, at a moment
+unfoldable pub class_command_done : ClassCommand → List (List ℕ) → ℕ → Windowing → Arrivals → Store → Done
+class_command_done command words moment own arrivals store = requested moment (target_in command words own) own arrivals store
+
+-- ── steps ──
+
+-- `requested` of a step that gave or refused a target
+abbrev pub IsRequested : ℕ → Result ClassTarget Refusal → Windowing → Arrivals → Store → Done → Type 0
 IsRequested moment given own arrivals store there =
     (target : Result ClassTarget (List ℕ)) → Gives given target → there ≡ requested moment target own arrivals store
-
--- the words behind the command's name, at a moment
-unfoldable pub class_command_done : ClassCommand → List (List ℕ) → ℕ → Own → Arrivals → Store → Done
-class_command_done command words moment own arrivals store = requested moment (target_in command words own) own arrivals store

@@ -10,16 +10,16 @@ use Rattle.tk_class_commands.specs.declared.entries.EntryRequest.{EntryRequest}
 use Rattle.tk_class_commands.specs.declared.entries.EntryRequest.TheVariants as request
 use Rattle.tk_class_commands.specs.declared.outcome.ClassOutcome.{ClassOutcome}
 use Rattle.tk_class_commands.specs.Outcomes.{Done, done, nothing, outcome_of}
-use Rattle.tk_entry.specs.declared.entry.Entry.{Entry as EntryText}
-use Rattle.tk_entry.specs.Columns.{characters_within}
-use Rattle.tk_entry.specs.Entries.{moved, shown}
+use Rattle.tk_widgets.specs.declared.entry.Entry.{Entry as EntryText}
+use Rattle.tk_widgets.specs.Columns.{characters_within}
+use Rattle.tk_widgets.specs.Entries.{moved, shown}
 use Rattle.tk_inputs.specs.Deliver.{Arrivals}
 use Rattle.tk_inputs.specs.Focus.{focused}
 use Rattle.tk_options.specs.declared.option.OptionEntry.{OptionEntry}
 use Rattle.tk_options.specs.declared.option.OptionName.TheVariants.{BorderWidth, State}
 use Rattle.tk_options.specs.Options.{amount_of}
 use Rattle.tk_screen.specs.Changes.{changed}
-use Rattle.tk_screen.specs.Own.{Own}
+use Rattle.tk_screen.specs.Own.{Windowing}
 use Rattle.tk_screen.specs.Shapes.{variable_text}
 use Rattle.tk_screen.specs.Widgets.{widget_at}
 use Rattle.tk_widgets.specs.Classes.{columns_to, has_value}
@@ -37,20 +37,20 @@ use Rattle.tk_widgets.specs.Outcomes.{asked_by}
 
 -- what is left of the application's windows and variables, and what comes of the command
 pub record Edited : Type 0 where
-  pub own : Own
+  pub own : Windowing
   pub store : Store
   pub outcome : ClassOutcome
 
-abbrev pub edit_told : Own → Store → ClassOutcome → Edited
+abbrev pub edit_told : Windowing → Store → ClassOutcome → Edited
 edit_told own store outcome = record { own = own; store = store; outcome = outcome }
 
 -- an edit sets the variable that the entry shows; where that can't be set, its error is told, and nothing is changed
-abbrev pub edited_as : ℕ → Own → Store → WidgetRequest → Edited
+abbrev pub edited_as : ℕ → Windowing → Store → WidgetRequest → Edited
 edited_as number own store (asked.Done act) = edit_told own store (outcome_of (Some act))
 edited_as number own store (asked.Wants change) =
     (let there = changed number change own store in edit_told there.own there.store (outcome_of there.act))
 
-abbrev pub edited : ℕ → EntryEdit → Own → Store → Edited
+abbrev pub edited : ℕ → EntryEdit → Windowing → Store → Edited
 edited number key own store =
     option_map_or (λ widget. edited_as number own store (asked_by (edit_asked key (variable_text widget store) widget))) (widget_at number own.widgets)
     (edit_told own store nothing)
@@ -58,7 +58,7 @@ edited number key own store =
 -- ---- the cursor
 
 -- the cursor of an entry stands behind so many characters
-abbrev pub with_cursor : ℕ → Option ℕ → Own → Own
+abbrev pub with_cursor : ℕ → Option ℕ → Windowing → Windowing
 with_cursor number place own = option_map_or (λ at. with_change number (PutCursor at) own) place own
 
 -- where it comes by a key or to the pointer, so many pixels from the left edge, in an entry that shows this text of a variable
@@ -73,14 +73,14 @@ place_by how text options parts = None
 abbrev pub place_of : CursorMove → Store → Widget → Option ℕ
 place_of how store widget = place_by how (variable_text widget store) widget.options widget.parts
 
-abbrev pub moved_at : ℕ → CursorMove → Own → Store → Own
+abbrev pub moved_at : ℕ → CursorMove → Windowing → Store → Windowing
 moved_at number how own store = with_cursor number (option_and_then (place_of how store) (widget_at number own.widgets)) own
 
-abbrev pub is_disabled_at : ℕ → Own → Bool
+abbrev pub is_disabled_at : ℕ → Windowing → Bool
 is_disabled_at number own = option_map_or (λ widget. has_value State (codes "disabled") widget.options) (widget_at number own.widgets) false
 
 -- a press: the entry gets the keys, and its cursor goes to the pointer, unless it is disabled
-abbrev pub pointed : ℕ → ℕ → ℤ → Own → Arrivals → Store → Done
+abbrev pub pointed : ℕ → ℕ → ℤ → Windowing → Arrivals → Store → Done
 pointed number moment x own arrivals store =
     if is_disabled_at number own then done own arrivals store nothing
     else done (moved_at number (To x) own store) (focused number moment own.tree arrivals) store nothing
@@ -90,7 +90,7 @@ pointed number moment x own arrivals store =
 abbrev pub edit_done : Arrivals → Edited → Done
 edit_done arrivals there = done there.own arrivals there.store there.outcome
 
-abbrev pub entry_asked : ℕ → ℕ → EntryRequest → Own → Arrivals → Store → Done
+abbrev pub entry_asked : ℕ → ℕ → EntryRequest → Windowing → Arrivals → Store → Done
 entry_asked number moment (request.Edit key) own arrivals store = edit_done arrivals (edited number key own store)
 entry_asked number moment (request.Move way) own arrivals store = done (moved_at number (By way) own store) arrivals store nothing
 entry_asked number moment (request.Point x) own arrivals store = pointed number moment x own arrivals store

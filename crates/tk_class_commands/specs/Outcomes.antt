@@ -4,7 +4,7 @@ use Rattle.tcl_vars.specs.Store.{Store}
 use Rattle.tk_class_commands.specs.declared.outcome.ClassOutcome.{ClassOutcome}
 use Rattle.tk_class_commands.specs.declared.outcome.ClassOutcome.TheVariants.{Acts}
 use Rattle.tk_inputs.specs.Deliver.{Arrivals}
-use Rattle.tk_screen.specs.Own.{Own}
+use Rattle.tk_screen.specs.Own.{Windowing}
 use Rattle.tk_widgets.specs.declared.outcome.WidgetAct.{WidgetAct}
 use Rattle.tk_widgets.specs.declared.outcome.WidgetAct.TheVariants.{Answer, Fault}
 
@@ -22,11 +22,11 @@ outcome_of None = nothing
 
 -- what is left of the application, and what comes of the command
 pub record Done : Type 0 where
-  pub own : Own
+  pub own : Windowing
   -- what it keeps of its input, and the events that wait for it
   pub arrivals : Arrivals
   pub store : Store
   pub outcome : ClassOutcome
 
-abbrev pub done : Own → Arrivals → Store → ClassOutcome → Done
+abbrev pub done : Windowing → Arrivals → Store → ClassOutcome → Done
 done own arrivals store outcome = record { own = own; arrivals = arrivals; store = store; outcome = outcome }

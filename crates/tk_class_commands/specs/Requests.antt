@@ -14,9 +14,9 @@ use Rattle.tk_class_commands.specs.declared.table.WordForm.{WordForm}
 use Rattle.tk_class_commands.specs.declared.table.WordForm.TheVariants as word
 use Rattle.tk_class_commands.specs.Table.{ClassCommand}
 use Rattle.tk_class_commands.specs.Targets.{number_of}
-use Rattle.tk_entry.specs.declared.keys.Move.{Move as Way}
-use Rattle.tk_entry.specs.Entries.{move_named}
-use Rattle.tk_screen.specs.Own.{Own}
+use Rattle.tk_widgets.specs.declared.entry_keys.Move.{Move as Way}
+use Rattle.tk_widgets.specs.Entries.{move_named}
+use Rattle.tk_screen.specs.Own.{Windowing}
 use Rattle.tk_widgets.specs.declared.entry_commands.EntryEdit.TheVariants as edit
 use Rattle.tk_widgets.specs.declared.listbox_keys.RowStep.{RowStep}
 use Rattle.tk_widgets.specs.ListboxKeys.{step_named}
@@ -62,23 +62,23 @@ word_request word.Step text = do
 abbrev pub target : ℕ → ClassRequest → ClassTarget
 target number request = record { number = number; request = request }
 
-abbrev pub path_target : ClassCommand → PathForm → List (List ℕ) → Own → Result ClassTarget (List ℕ)
+abbrev pub path_target : ClassCommand → PathForm → List (List ℕ) → Windowing → Result ClassTarget (List ℕ)
 path_target command form (path ∷ []) own = do
   number ← number_of command.kind path own
   Ok (target number (path_request form))
 path_target command form _ own = wrong_args command.usage
 
-abbrev pub word_target : ClassCommand → WordForm → List (List ℕ) → Own → Result ClassTarget (List ℕ)
+abbrev pub word_target : ClassCommand → WordForm → List (List ℕ) → Windowing → Result ClassTarget (List ℕ)
 word_target command form (path ∷ word ∷ []) own = do
   number ← number_of command.kind path own
   request ← word_request form word
   Ok (target number request)
 word_target command form _ own = wrong_args command.usage
 
-abbrev pub target_by : ClassCommand → ClassForm → List (List ℕ) → Own → Result ClassTarget (List ℕ)
+abbrev pub target_by : ClassCommand → ClassForm → List (List ℕ) → Windowing → Result ClassTarget (List ℕ)
 target_by command (Path form) words own = path_target command form words own
 target_by command (Word form) words own = word_target command form words own
 
 -- the widget that the words are for, and what they ask of it
-abbrev pub target_in : ClassCommand → List (List ℕ) → Own → Result ClassTarget (List ℕ)
+abbrev pub target_in : ClassCommand → List (List ℕ) → Windowing → Result ClassTarget (List ℕ)
 target_in command words own = target_by command command.form words own

@@ -61,7 +61,7 @@ fn enter(
     win: Win,
 ) -> Result<ClassOutcome, AllocError>
     ensures own { IfOk result (λ outcome. spec.told (own_of win.owner screen.new) (inputs_of.own_of win.owner inputs.new) outcome
-        ≡ spec.entered win.number (own_of win.owner screen.old) (inputs_of.own_of win.owner inputs.old)) }
+        ≡ spec.pointer_entered win.number (own_of win.owner screen.old) (inputs_of.own_of win.owner inputs.old)) }
     ensures screen { LeavesOthers win.owner screen.old screen.new }
     ensures inputs { inputs_of.LeavesOthers win.owner inputs.old inputs.new }
 {
@@ -80,7 +80,7 @@ fn leave(
     win: Win,
 ) -> Result<ClassOutcome, AllocError>
     ensures own { IfOk result (λ outcome. spec.told (own_of win.owner screen.new) (inputs_of.own_of win.owner inputs.new) outcome
-        ≡ spec.left win.number (own_of win.owner screen.old) (inputs_of.own_of win.owner inputs.old)) }
+        ≡ spec.pointer_left win.number (own_of win.owner screen.old) (inputs_of.own_of win.owner inputs.old)) }
     ensures screen { LeavesOthers win.owner screen.old screen.new }
     ensures inputs { inputs_of.LeavesOthers win.owner inputs.old inputs.new }
 {

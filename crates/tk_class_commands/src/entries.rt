@@ -16,11 +16,10 @@ use tcl_text::Text;
 use tcl_vars::Scopes;
 use tk_base::Win;
 use tk_dispatch::EventQueue;
-use tk_entry::{Entry, Move};
 use tk_inputs::{Inputs, set_focus};
 use tk_options::{OptionName, OptionTable};
 use tk_screen::{Screen, change_widget, variable_text};
-use tk_widgets::{EntryEdit, Parts, Widget, WidgetChange, WidgetRequest};
+use tk_widgets::{Entry, EntryEdit, Move, Parts, Widget, WidgetChange, WidgetRequest};
 
 /// The width of a column, in pixels.
 const COLUMN: usize = 8;

@@ -13,10 +13,9 @@ use std::alloc::{AllocError, Global};
 use tk_base::Win;
 use tk_dispatch::EventQueue;
 use tk_inputs::{Inputs, set_focus};
-use tk_listbox::{Choice, Listbox};
 use tk_options::OptionName;
 use tk_screen::Screen;
-use tk_widgets::{Parts, RowStep, Widget, WidgetChange};
+use tk_widgets::{Choice, Listbox, Parts, RowStep, Widget, WidgetChange};
 
 /// What a command asks of a listbox. Heights are in pixels, from the upper edge.
 #[derive(Clone, Copy, Debug, PartialEq, Eq)]
@@ -32,7 +31,7 @@ pub enum ListboxRequest {
 pub struct Effect {
     /// The place of the item that becomes active.
     pub active: usize,
-    /// How it is chosen; none where it isn't.
+    /// How it is selected; none where it isn't.
     pub choice: Option<Choice>,
 }
 
@@ -63,7 +62,7 @@ pub fn listbox_asked(
     Ok(outcome_of(win.number, effect))
 }
 
-/// The item becomes active, and is chosen if it is to be.
+/// The item becomes active, and is selected if it is to be.
 fn take_effect(
     alloc: Global,
     screen: &mut Screen,
@@ -108,7 +107,7 @@ fn effect_on(widget: &Widget, listbox: &Listbox, request: ListboxRequest) -> Opt
         ListboxRequest::Press(y) => pressed(widget, listbox, y),
         ListboxRequest::Drag(y) => dragged(widget, listbox, y),
         ListboxRequest::Step(step) => stepped(widget, listbox, step),
-        ListboxRequest::Choose => chosen(widget, listbox),
+        ListboxRequest::Choose => active_selected(widget, listbox),
     }
 }
 
@@ -167,8 +166,8 @@ fn stepped(widget: &Widget, listbox: &Listbox, step: RowStep) -> Option<Effect>
 }
 
 /// The active item, unless there is none.
-fn chosen(widget: &Widget, listbox: &Listbox) -> Option<Effect>
-    ensures { result ≡ spec.chosen widget.now.options listbox.now }
+fn active_selected(widget: &Widget, listbox: &Listbox) -> Option<Effect>
+    ensures { result ≡ spec.active_selected widget.now.options listbox.now }
 {
     if listbox.size() == 0 {
         return None;
@@ -180,7 +179,7 @@ fn chosen(widget: &Widget, listbox: &Listbox) -> Option<Effect>
     })
 }
 
-/// How an item is chosen: in the mode `multiple` it is toggled, else it is the selection.
+/// How an item is selected: in the mode `multiple` it is toggled, else it is the selection.
 fn choice_of(widget: &Widget, place: usize) -> Choice
     ensures { result ≡ spec.choice_of place widget.now.options }
 {

@@ -12,9 +12,8 @@ use crate::targets::{integer_in, number_of};
 use std::alloc::Global;
 use tcl_text::Text;
 use tcl_text::answers::{Refusal, bad_option, wrong_args};
-use tk_entry::Move;
 use tk_screen::Screen;
-use tk_widgets::{EntryEdit, RowStep};
+use tk_widgets::{EntryEdit, Move, RowStep};
 
 /// What a command asks of a widget.
 #[derive(Drop)]

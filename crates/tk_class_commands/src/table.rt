@@ -42,7 +42,7 @@ pub enum PathForm {
     Backspace,
     /// The character behind an entry's cursor is deleted.
     Delete,
-    /// The active item of a listbox is chosen.
+    /// The active item of a listbox is selected.
     Choose,
 }
 

@@ -5,10 +5,10 @@ use Rattle.tcl_vars.specs.Store.{Store}
 use Rattle.tk_dispatch.specs.Dispatch.{Chosen}
 use Rattle.tk_sequences.specs.declared.event.Event.{Event}
 use Rattle.tk_packer.specs.declared.changes.PlaceChange.{PlaceChange}
-use Rattle.tk_screen.specs.Layout.{changes_due, laid_out as laid_out_screen}
+use Rattle.tk_screen.specs.Layout.{changes_due, laid_out_windowing}
 use Rattle.tk_tree.specs.declared.window.Window.{Window}
 use Rattle.tk_tree.specs.Own.{window_at}
-use Rattle.tk_panel.specs.Changes.{laid_out, number_of, queued_at, with_changes}
+use Rattle.tk_panel.specs.Changes.{laid_out, number_of, queued_at, with_events_of}
 use Rattle.tk_panel.specs.Choice.{chosen, chosen_at, on_scripts, scripts_of}
 use Rattle.tk_panel.specs.Panel.{Panel}
 use Rattle.tk_panel.specs.Settle.{drained, or_later, with_queue}
@@ -37,7 +37,7 @@ by_window event panel (Some window) = by_scripts event panel (scripts_of event p
 
 chosen_leaves : (event : Event) (panel : Panel) → LeavesTimers panel (chosen event panel).0
 unfolding chosen
-chosen_leaves event panel = by_window event panel (window_at event.number panel.screen.tree)
+chosen_leaves event panel = by_window event panel (window_at event.number panel.windowing.tree)
 
 -- ── events, one after another ──
 
@@ -72,13 +72,13 @@ by_change : (change : PlaceChange) (panel : Panel) (window : Option Window) → 
 by_change change panel None = same panel
 by_change change panel (Some window) = record { moment = refl; timers = refl }
 
-changes_leave : (changes : List PlaceChange) (panel : Panel) → LeavesTimers panel (with_changes changes panel)
-unfolding with_changes
+changes_leave : (changes : List PlaceChange) (panel : Panel) → LeavesTimers panel (with_events_of changes panel)
+unfolding with_events_of
 changes_leave [] panel = same panel
 changes_leave (change ∷ changes) panel =
-    then (by_change change panel (window_at (number_of change) panel.screen.tree)) (changes_leave changes (queued_at change panel (window_at (number_of change) panel.screen.tree)))
+    then (by_change change panel (window_at (number_of change) panel.windowing.tree)) (changes_leave changes (queued_at change panel (window_at (number_of change) panel.windowing.tree)))
 
 pub layout_leaves : (store : Store) (panel : Panel) → LeavesTimers panel (laid_out store panel)
 unfolding laid_out
 layout_leaves store panel =
-    let left = changes_leave (changes_due panel.screen store) (record panel { screen = laid_out_screen panel.screen store }) in record { moment = left.moment; timers = left.timers }
+    let left = changes_leave (changes_due panel.windowing store) (record panel { windowing = laid_out_windowing panel.windowing store }) in record { moment = left.moment; timers = left.timers }

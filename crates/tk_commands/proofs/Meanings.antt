@@ -15,7 +15,7 @@ use Rattle.tk_panel.specs.declared.job.Home.TheVariants.{Settle}
 use Rattle.tk_commands.specs.Calls.{calls}
 use Rattle.tk_commands.specs.Moment.{settling}
 use Rattle.tk_commands.specs.Course.{course, event_job, looked_of}
-use Rattle.tk_commands.specs.Laws.{Begins, Destroys, Dispatches, Settles, comes_next, meaning, on_next, with_panel}
+use Rattle.tk_commands.specs.Laws.{Begins, Destroys, Dispatches, Settles, comes_next, meaning, on_next, state_with_panel}
 
 by_next : (room : ℕ) (job : Option Job) (state : State Panel) → looked course (runs course calls room) (meaning room) (looked_of job) state ≡ on_next room state job
 by_next room None state = refl
@@ -24,7 +24,7 @@ by_next room (Some job) state = refl
 comes : (room : ℕ) (job : Job) (state : State Panel) → meaning room job state ≡ comes_next room state (next job state.store state.shows)
 comes room job state =
     let there : Next = next job state.store state.shows in
-    jobs.unrolls course calls room job state ∙ by_next room there.1 (with_panel there.0 state)
+    jobs.unrolls course calls room job state ∙ by_next room there.1 (state_with_panel there.0 state)
 
 pub settles : Settles
 settles room ids home state = comes room (without_event (Rounds ids home)) state

@@ -13,17 +13,17 @@ use Rattle.tk_commands.specs.declared.binding.BindingCommand.{BindingCommand}
 use Rattle.tk_commands.specs.declared.binding.BindingCommand.TheVariants as command
 use Rattle.tk_commands.specs.Dispatch.{generate_told}
 use Rattle.tk_commands.specs.Outcomes.{Told, answered}
-use Rattle.tk_screen.specs.Own.{Own}
+use Rattle.tk_screen.specs.Own.{Windowing}
 
 abbrev pub bind_told : List (List ℕ) → Panel → Panel × Answer
 bind_told words panel =
-    (let there = bind_words panel.screen.tree words panel.bindings in (record panel { bindings = there.0 }, there.1))
+    (let there = bind_words panel.windowing.tree words panel.bindings in (record panel { bindings = there.0 }, there.1))
 
-abbrev pub tags_told : List (List ℕ) → Own → Own × Answer
+abbrev pub tags_told : List (List ℕ) → Windowing → Windowing × Answer
 tags_told words own = (let there = bindtags_words words own.tree in (record own { tree = there.0 }, there.1))
 
 abbrev pub bindtags_told : List (List ℕ) → Panel → Panel × Answer
-bindtags_told words panel = (let there = tags_told words panel.screen in (record panel { screen = there.0 }, there.1))
+bindtags_told words panel = (let there = tags_told words panel.windowing in (record panel { windowing = there.0 }, there.1))
 
 -- add, delete, info
 abbrev pub virtual_told : List (List ℕ) → Panel → Panel × Answer
@@ -42,7 +42,7 @@ abbrev pub with_focus : Panel → focus.Told → Panel × Answer
 with_focus panel there = (record panel { input = there.arrivals.input; queue = there.arrivals.queue }, there.answer)
 
 abbrev pub focus_told : List (List ℕ) → Panel → Panel × Answer
-focus_told words panel = with_focus panel (focus.focus_words words panel.moment panel.screen.tree (arrivals_in panel))
+focus_told words panel = with_focus panel (focus.focus_words words panel.moment panel.windowing.tree (arrivals_in panel))
 
 -- ---- by their names
 

@@ -1,4 +1,4 @@
--- Meaning. The commands of an application, as its interpreter calls them.
+-- Steps. The commands of an application, as its interpreter calls them: by acts, and by tasks that begin jobs. What a command does, `panel_command` says.
 use Rattle.std.specs.Prelude.{ℕ, List, []}
 use Rattle.tcl_vars.specs.Store.{Store}
 use Rattle.tcl_control.specs.declared.code.Code.TheVariants.{Normal, Error}

@@ -23,11 +23,11 @@ class_done panel store outcome = record { panel = panel; store = store; outcome 
 
 abbrev pub with_done : Panel → outcomes.Done → ClassDone
 with_done panel there =
-    class_done (record panel { screen = there.own; input = there.arrivals.input; queue = there.arrivals.queue }) there.store there.outcome
+    class_done (record panel { windowing = there.own; input = there.arrivals.input; queue = there.arrivals.queue }) there.store there.outcome
 
 abbrev pub class_command : ClassCommand → List (List ℕ) → Panel → Store → ClassDone
 class_command command words panel store =
-    with_done panel (class_command_done command words panel.moment panel.screen (arrivals_in panel) store)
+    with_done panel (class_command_done command words panel.moment panel.windowing (arrivals_in panel) store)
 
 -- a selection that was made is told at once
 abbrev pub outcome_for : ClassOutcome → Panel → Told

@@ -28,18 +28,18 @@ abbrev pub with_queue : List Event → Panel → Panel
 with_queue queue panel = record panel { queue = queue }
 
 -- a generated event comes at once, or waits behind all others or before them
-abbrev pub arrived : When → Event → Panel → Told
-arrived Now event panel = dispatched event panel
-arrived Tail event panel = told (with_queue (panel.queue ++ event ∷ []) panel) (Acts (Answer []))
-arrived Head event panel = told (with_queue (event ∷ panel.queue) panel) (Acts (Answer []))
+abbrev pub generated_by_when : When → Event → Panel → Told
+generated_by_when Now event panel = dispatched event panel
+generated_by_when Tail event panel = told (with_queue (panel.queue ++ event ∷ []) panel) (Acts (Answer []))
+generated_by_when Head event panel = told (with_queue (event ∷ panel.queue) panel) (Acts (Answer []))
 
 abbrev pub generated_told : Result Generated (List ℕ) → Panel → Told
-generated_told (Ok generated) panel = arrived generated.when generated.event panel
+generated_told (Ok generated) panel = generated_by_when generated.when generated.event panel
 generated_told (Err text) panel = told panel (Acts (Fault text))
 
 -- event generate path pattern ?option value ..?, with the words behind `generate`
 unfoldable pub generate_told : List (List ℕ) → Panel → Told
-generate_told words panel = generated_told (generate_words words panel.input.focus (length panel.queue) panel.moment panel.screen.tree) panel
+generate_told words panel = generated_told (generate_words words panel.input.focus (length panel.queue) panel.moment panel.windowing.tree) panel
 
 -- ---- another selection
 
@@ -53,4 +53,4 @@ dispatched_if None panel = told panel (Acts (Answer []))
 
 -- it comes at once
 abbrev pub selection_told : ℕ → Panel → Told
-selection_told number panel = dispatched_if (selection_of panel.moment (window_at number panel.screen.tree)) panel
+selection_told number panel = dispatched_if (selection_of panel.moment (window_at number panel.windowing.tree)) panel

@@ -30,35 +30,35 @@ at_global room script state = run_at (runs course calls room) 1 script state
 abbrev pub meaning : ℕ → Job → State Panel → Outcome Panel
 meaning room job state = job_meaning course calls room job state
 
-abbrev pub with_panel : Panel → State Panel → State Panel
-with_panel panel state = record state { shows = panel }
+abbrev pub state_with_panel : Panel → State Panel → State Panel
+state_with_panel panel state = record state { shows = panel }
 
 -- ── what comes next, again and again ──
 
 -- a script of a job has ended, and then the job goes on
 abbrev pub goes_on : ℕ → Job → State Panel → Code → List ℕ → Outcome Panel
 goes_on room job state code text =
-    (let there : Panel × Job = ended (out_of_global code) text state.shows job in meaning room there.1 (with_panel there.0 state))
+    (let there : Panel × Job = ended (out_of_global code) text state.shows job in meaning room there.1 (state_with_panel there.0 state))
 
 -- the step of what is next is taken, it starts, and its script runs
 abbrev pub starts : ℕ → Job → State Panel → Outcome Panel
 starts room job state =
     (let there : Panel × (List ℕ × Job) = start job state.shows in
-    and_then (at_global room there.1.0 (with_panel there.0 state)) (goes_on room there.1.1))
+    and_then (at_global room there.1.0 (state_with_panel there.0 state)) (goes_on room there.1.1))
 
 abbrev pub on_next : ℕ → State Panel → Option Job → Outcome Panel
 on_next room state None = Ended state Normal []
 on_next room state (Some job) = with_step state (starts room job)
 
 abbrev pub comes_next : ℕ → State Panel → Next → Outcome Panel
-comes_next room state there = on_next room (with_panel there.0 state) there.1
+comes_next room state there = on_next room (state_with_panel there.0 state) there.1
 
 -- ── events ──
 
 -- behind a script of an event come the others, or what is behind the event
 abbrev pub after_bound : ℕ → List (List ℕ) → Rest → State Panel → Code → List ℕ → Outcome Panel
 after_bound room scripts rest state code text =
-    (let there : Panel × Job = bound_ended (out_of_global code) text scripts rest state.shows in meaning room there.1 (with_panel there.0 state))
+    (let there : Panel × Job = bound_ended (out_of_global code) text scripts rest state.shows in meaning room there.1 (state_with_panel there.0 state))
 
 abbrev pub Dispatches : Type 0
 Dispatches = (room : ℕ) (script : List ℕ) (scripts : List (List ℕ)) (rest : Rest) (state : State Panel)
@@ -79,7 +79,7 @@ Destroys = (room : ℕ) (window : Option ℕ) (doomed : List ℕ) (paths : List 
 -- ── the beginning ──
 
 abbrev pub after_script : ℕ → State Panel → Code → List ℕ → Outcome Panel
-after_script room state code text = meaning room (settling Settle) (with_panel (with_end (out_of_global code) text state.shows) state)
+after_script room state code text = meaning room (settling Settle) (state_with_panel (with_end (out_of_global code) text state.shows) state)
 
 abbrev pub Begins : Type 0
 Begins = (room : ℕ) (script text : List ℕ) (state : State Panel) (code : Code)

@@ -15,8 +15,8 @@ outcome_of (Some act) = Acts act
 outcome_of None = Unknown
 
 abbrev pub with_changed : Panel → Changed → Done
-with_changed panel there = done (record panel { screen = there.own }) there.store (outcome_of there.act)
+with_changed panel there = done (record panel { windowing = there.own }) there.store (outcome_of there.act)
 
 -- the path, and the words behind it
 abbrev pub path_told : List ℕ → List (List ℕ) → Panel → Store → Done
-path_told path words panel store = with_changed panel (path_words path words panel.screen store)
+path_told path words panel store = with_changed panel (path_words path words panel.windowing store)

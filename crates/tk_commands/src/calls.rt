@@ -6,11 +6,11 @@ ghost use Rattle.tk_commands.specs.Calls.{act_of, calls, outcome_told};
 
 use crate::jobs::begin;
 use crate::{CommandOutcome, panel_command};
-use std::alloc::AllocError;
+use std::alloc::{AllocError, Global};
 use tcl_interp::{Act, Code, Task};
 use tcl_text::Text;
 use tcl_vars::Scopes;
-use tcl_words::{ParseFault, Script};
+use tcl_words::{ParseFault, Script, parse};
 use tk_panel::{Job, Tables};
 use tk_widgets::WidgetAct;
 
@@ -62,7 +62,22 @@ pub fn call(
     act_for(tables, slot, scopes, outcome)
 }
 
-/// The commands of a script's text (Tcl(n)), or its fault (4 to 10): what was read last for any application isn't read again.
+/// How many bytes a script that is kept has at most: what was read of a longer one may take megabytes.
+const MOST_KEPT: usize = 4_096;
+
+/// The script of a text (Tcl(n)), or its fault (4 to 10), which nothing keeps.
+#[tactic(auto, using(tcl_table::proofs::SourceLemmas::script_walk))]
+fn read_once(alloc: Global, text: &Text) -> Result<Script, ParseFault>
+    ensures text { IfOk result (λ script. script ≡ text.now) }
+    ensures ok { IfOk result (λ _. IsOk (script_of text.now)) }
+    ensures fault { IfErr result (λ fault. (script_of text.now ≡ Err fault) ⊎ (fault ≡ ParseFault.NoMemory)) }
+{
+    let script = parse(alloc, text.as_str().as_bytes())?;
+    let _commands = script.commands();
+    Ok(script)
+}
+
+/// The commands of a script's text (Tcl(n)), or its fault (4 to 10): of short scripts what was read last for any application isn't read again.
 #[tactic(auto, using(tcl_table::proofs::SourceLemmas::script_walk))]
 pub fn parsed(tables: &mut Tables, text: &Text) -> Result<Script, ParseFault>
     ensures text { IfOk result (λ script. script ≡ text.now) }
@@ -71,5 +86,8 @@ pub fn parsed(tables: &mut Tables, text: &Text) -> Result<Script, ParseFault>
     ensures panels { (slot : ℕ) → panel_of slot tables.new ≡ panel_of slot tables.old }
     ensures others { (slot : ℕ) → LeavesOthers slot tables.old tables.new }
 {
+    if text.as_str().len() > MOST_KEPT {
+        return read_once(tables.alloc, text);
+    }
     tables.scripts.parsed(text)
 }

@@ -64,7 +64,7 @@ fn arrive(
     generated: Generated,
 ) -> Result<CommandOutcome, AllocError>
     ensures own { IfOk result (λ outcome. told (panel_of slot tables.new) outcome
-        ≡ spec.arrived generated.when generated.event (panel_of slot tables.old)) }
+        ≡ spec.generated_by_when generated.when generated.event (panel_of slot tables.old)) }
     ensures others { LeavesOthers slot tables.old tables.new }
 {
     let Generated { event, when } = generated;
@@ -125,7 +125,7 @@ fn selection_event(
 }
 
 /// The name of the event of a listbox that has another selection.
-#[tactic(auto, unfolding(tk_sequences::specs::Reading::name_in))]
+#[tactic(auto, unfolding(tk_sequences::specs::Words::name_in))]
 fn selection_name(alloc: Global) -> Result<VirtualName, AllocError>
     ensures { IfOk result (λ name. name ≡ codes "ListboxSelect") }
 {

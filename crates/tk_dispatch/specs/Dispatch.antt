@@ -7,7 +7,7 @@ use Rattle.tk_sequences.specs.declared.event.Event.{Event}
 use Rattle.tk_patterns.specs.declared.binding.Binding.{Binding}
 use Rattle.tk_patterns.specs.Winner.{Pairs, winner}
 use Rattle.tk_dispatch.specs.Percent.{substituted}
-use Rattle.tk_tree.specs.Own.{Own, at_path, window_at}
+use Rattle.tk_tree.specs.Own.{Tree, at_path, window_at}
 use Rattle.tk_virtual.specs.declared.pair.Pair.{Pair}
 use Rattle.tk_virtual.specs.Virtual.{meanings_of}
 
@@ -19,11 +19,11 @@ is_path [] = false
 is_path (first ∷ rest) = first == 46
 
 -- such a tag counts while its window is there, and any other always
-abbrev pub is_live : Own → List ℕ → Bool
+abbrev pub is_live : Tree → List ℕ → Bool
 is_live windows tag = not (is_path tag) || is_some (at_path tag windows)
 
 -- the tags of the window with a number; none where it is gone
-abbrev pub tags_of : ℕ → Own → List (List ℕ)
+abbrev pub tags_of : ℕ → Tree → List (List ℕ)
 tags_of number windows = option_map_or (λ window. window.tags) (window_at number windows) []
 
 -- ---- scripts
@@ -47,13 +47,13 @@ abbrev pub with_fields : Event → List ℕ → Answer
 with_fields event script = answers (substituted event script)
 
 -- what a tag's winner runs, if the tag counts and has one
-abbrev pub script_of : Own → Pairs → List Binding → List Event → Event → List ℕ → Option Answer
+abbrev pub script_of : Tree → Pairs → List Binding → List Event → Event → List ℕ → Option Answer
 script_of windows pairs bindings history event tag =
     if is_live windows tag then option_map (with_fields event) (winner pairs tag event history bindings) else None
 
-abbrev pub scripts_of : Own → Pairs → List Binding → List Event → Event → List (List ℕ) → Chosen
+abbrev pub scripts_of : Tree → Pairs → List Binding → List Event → Event → List (List ℕ) → Chosen
 scripts_of windows pairs bindings history event tags = all_of (filter_map (script_of windows pairs bindings history event) tags)
 
 -- the scripts that an event runs at the window with a number, in the order of the window's tags
-unfoldable pub scripts_for : Own → List Binding → List Pair → ℕ → Event → List Event → Chosen
+unfoldable pub scripts_for : Tree → List Binding → List Pair → ℕ → Event → List Event → Chosen
 scripts_for windows bindings virtuals number event history = scripts_of windows (meanings_of virtuals) bindings history event (tags_of number windows)

@@ -44,7 +44,7 @@ typed_by None = []
 abbrev pub key_text : ℕ → List ℕ
 key_text key = typed_by (character_of key)
 
--- the characters that stand for fields
+-- the characters that stand for fields, by their codes: W, T, t, s, x, y, X, Y, b, K, A, w, h and d
 abbrev pub field_characters : List (ℕ × Field)
 field_characters =
     (87, Path)

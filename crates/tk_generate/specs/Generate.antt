@@ -19,7 +19,7 @@ use Rattle.tk_sequences.specs.declared.pattern.Pattern.{Pattern}
 use Rattle.tk_tree.specs.declared.corner.Corner.{Corner}
 use Rattle.tk_tree.specs.declared.window.Window.{Window}
 use Rattle.tk_tree.specs.Corners.{corner}
-use Rattle.tk_tree.specs.Own.{Own, at_path, window_at}
+use Rattle.tk_tree.specs.Own.{Tree, at_path, window_at}
 use Rattle.tk_tree.specs.Path.{bad_path}
 
 -- ---- who gets it
@@ -28,7 +28,7 @@ abbrev pub named_or_bad : List ℕ → Option Window → Result Receiver (List �
 named_or_bad path (Some window) = Ok (record { number = window.number; path = path })
 named_or_bad path None = bad_path path
 
-abbrev pub receiver_named : List ℕ → Own → Result Receiver (List ℕ)
+abbrev pub receiver_named : List ℕ → Tree → Result Receiver (List ℕ)
 receiver_named path own = named_or_bad path (at_path path own)
 
 -- events of keys go to the focus window
@@ -68,7 +68,7 @@ abbrev pub event_in : EventRequest → Given → Receiver → Corner → ℕ →
 event_in (asks.Physical pattern) given receiver corner moment = physical_event pattern given receiver corner moment
 event_in (asks.Virtual name) given receiver corner moment = Ok (virtual_event name given receiver corner moment)
 
-abbrev pub event_for : EventRequest → Given → Receiver → ℕ → Own → Result Event (List ℕ)
+abbrev pub event_for : EventRequest → Given → Receiver → ℕ → Tree → Result Event (List ℕ)
 event_for asked given receiver moment own = event_in asked given receiver (corner receiver.number own) moment
 
 -- ---- when it comes
@@ -88,7 +88,7 @@ in_room waiting when = if is_to_wait when && nat_le most_queued waiting then fai
 
 -- ---- the command
 
-unfoldable pub generate_words : List (List ℕ) → ℕ → ℕ → ℕ → Own → Result Generated (List ℕ)
+unfoldable pub generate_words : List (List ℕ) → ℕ → ℕ → ℕ → Tree → Result Generated (List ℕ)
 generate_words (path ∷ pattern ∷ options) focus waiting moment own = do
   named ← receiver_named path own
   asked ← asked_in pattern

@@ -2,7 +2,7 @@
 ghost use Rattle.std.specs.Prelude.{◌≡◌, []};
 ghost use Rattle.tcl_text.specs.Answers.{Gives};
 ghost use Rattle.tk_generate.specs.Asked.{asked_in, is_for_keys, one_pattern};
-ghost use Rattle.tk_sequences.specs.Reading.{is_single};
+ghost use Rattle.tk_sequences.specs.Words.{is_single};
 
 use crate::refusals::sequence_refused;
 use std::alloc::Global;

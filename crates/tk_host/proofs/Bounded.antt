@@ -7,7 +7,7 @@ use Rattle.std.proofs.lemmas.List.Sums.{sum_by-cons}
 use Rattle.tk_base.specs.declared.local_event.LocalEvent.{LocalEvent}
 use Rattle.tk_route.specs.declared.delivery.Delivery.{Delivery}
 use Rattle.tk_route.specs.Routes.{events_of}
-use Rattle.tk_app.specs.Stages.{settled_at, used_at}
+use Rattle.tk_app.specs.Stages.{settled_if_due_at, used_at}
 use Rattle.tk_app.proofs.Rounds.{sum-cons}
 use Rattle.tk_app.proofs.Shares.{steps_in_turns, sum_used}
 use Rattle.tk_app.specs.Application.{Application, next_due}
@@ -95,7 +95,7 @@ module _ {M : Type 0} (answer : M → Meaning) where
         omega (
           arith,
           steps_in_turns slice (map (used_at next_due (settled answer) steps_left moment) apps) positive,
-          sum_used steps_left (λ app. steps_left (settled_at next_due (settled answer) moment app)) apps,
+          sum_used steps_left (λ app. steps_left (settled_if_due_at next_due (settled answer) moment app)) apps,
         );
     events = λ slice stage apps positive each. omega (arith, steps_in_turns slice (steps_given answer 0 stage apps) positive, in_all 0 stage apps each);
     stages = one_each;

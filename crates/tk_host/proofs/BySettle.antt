@@ -13,7 +13,7 @@ use Rattle.tk_app.specs.Stages.{settled_if}
 use Rattle.tk_app.proofs.BySettle.{by_settle}
 use Rattle.tk_app.proofs.SoundParts.{stays_sound}
 use Rattle.tk_host.specs.Alone.{after_event_by, after_events, after_events_by, at_moment, at_moment_by, passed, passed_by}
-use Rattle.tk_host.specs.BySettle.{AloneBySettle}
+use Rattle.tk_host.specs.BySettle.{AloneBySettle, PassedBySettle}
 
 module _ {M : Type 0} (answer : M → Meaning) where
   -- ── windows are numbered as they were made ──
@@ -74,3 +74,6 @@ module _ {M : Type 0} (answer : M → Meaning) where
   pub alone_by_settle : AloneBySettle answer
   alone_by_settle settle meets spec routed last =
       passed_same settle meets last (after_events answer spec routed) (events_sound spec routed) ∙ ap (passed_by answer settle last) (events_same settle meets spec routed)
+
+  pub passed_by_settle : PassedBySettle answer
+  passed_by_settle settle meets last application sound = passed_same settle meets last application sound

@@ -5,7 +5,7 @@ use Rattle.std.specs.Option.{option_map_or}
 use Rattle.std.proofs.lemmas.Bool.{eqb-false, eqb-true}
 use Rattle.tk_base.specs.declared.budget.Budget.{Budget}
 use Rattle.tk_app.specs.Part.{Part, settling_begun}
-use Rattle.tk_app.specs.Rounds.{entry}
+use Rattle.tk_app.specs.Rounds.{one_turn}
 use Rattle.tk_app.specs.Shares.{taken_by}
 use Rattle.tk_app.specs.Turns.{Applications, BeginsIn, ChangesOnly, ChangesPart}
 use Rattle.tk_app.proofs.Shares.{taken_by-append, taken_other, taken_own}
@@ -53,14 +53,14 @@ module _ {M : Type 0} where
 
   -- a part in a slot took so many steps, which are told
   one_counts : (slot taken : ℕ) (before after : Part M) (old new : Applications M) → slice_get old.parts slot ≡ Some before → new.parts ≡ slice_set old.parts slot after
-      → taken + after.application.steps ≡ before.application.steps → after.application.budget ≡ before.application.budget → new.turns ≡ old.turns ++ entry slot taken → CountsAll old new
+      → taken + after.application.steps ≡ before.application.steps → after.application.budget ≡ before.application.budget → new.turns ≡ old.turns ++ one_turn slot taken → CountsAll old new
   one_counts slot taken before after old new was changed all budget told = λ other. by other (nat_eq slot other) refl
     where
       here : CountsIn slot old new
       here =
           let first : left_in slot old.parts ≡ before.application.steps = ap steps_of was in
           let last : left_in slot new.parts ≡ after.application.steps = ap (left_in slot) changed ∙ ap steps_of (at_here old.parts slot before after was) in
-          let turns : taken_by slot new.turns ≡ taken_by slot old.turns + taken_by slot (entry slot taken) = ap (taken_by slot) told ∙ taken_by-append slot old.turns (entry slot taken) in
+          let turns : taken_by slot new.turns ≡ taken_by slot old.turns + taken_by slot (one_turn slot taken) = ap (taken_by slot) told ∙ taken_by-append slot old.turns (one_turn slot taken) in
           record {
             told = omega (arith, first, last, turns, taken_own slot taken, all);
             fewer = omega (arith, first, last, all);
@@ -71,7 +71,7 @@ module _ {M : Type 0} where
       there other differ =
           let same : slice_get new.parts other ≡ slice_get old.parts other = ap (λ ps. slice_get ps other) changed ∙ at_other old.parts slot other after differ in
           let left : left_in other new.parts ≡ left_in other old.parts = ap steps_of same in
-          let turns : taken_by other new.turns ≡ taken_by other old.turns + taken_by other (entry slot taken) = ap (taken_by other) told ∙ taken_by-append other old.turns (entry slot taken) in
+          let turns : taken_by other new.turns ≡ taken_by other old.turns + taken_by other (one_turn slot taken) = ap (taken_by other) told ∙ taken_by-append other old.turns (one_turn slot taken) in
           record { told = omega (arith, left, turns, taken_other other slot taken differ); fewer = omega (arith, left); budget = ap budget_of same }
 
       by : (other : ℕ) (b : Bool) → nat_eq slot other ≡ b → CountsIn other old new
@@ -88,7 +88,7 @@ module _ {M : Type 0} where
   begins_count : (slot : ℕ) (old new : Applications M) → BeginsIn slot old new → CountsAll old new
   begins_count slot old new begins =
       let parts : new.parts ≡ slice_set old.parts slot (settling_begun begins.before) = ap (λ (h : Applications M). h.parts) begins.changed in
-      let turns : new.turns ≡ old.turns ++ entry slot 0 = ap (λ (h : Applications M). h.turns) begins.changed ∙ sym (append-nil old.turns) in
+      let turns : new.turns ≡ old.turns ++ one_turn slot 0 = ap (λ (h : Applications M). h.turns) begins.changed ∙ sym (append-nil old.turns) in
       one_counts slot 0 begins.before (settling_begun begins.before) old new begins.was parts (omega arith) refl turns
 
   pub begins_counted : {T E : Type 0} (r : Result T E) (slot : ℕ) (old new : Applications M) → OnOk r (BeginsIn slot old new) → OnErr r (new ≡ old) → CountsAll old new

@@ -13,15 +13,15 @@ use Rattle.tk_app.specs.declared.turns.Turn.{Turn}
 use Rattle.tk_app.specs.Application.{Application, next_due}
 use Rattle.tk_app.specs.Moments.{settled}
 use Rattle.tk_app.specs.Part.{Part, needs}
-use Rattle.tk_app.specs.Rounds.{entry, round, round_from, turns_of}
+use Rattle.tk_app.specs.Rounds.{one_turn, round, round_from, turns_of}
 use Rattle.tk_app.specs.Seen.{Meaning}
-use Rattle.tk_app.specs.Stages.{first_due, stage_at, turns_at}
+use Rattle.tk_app.specs.Stages.{first_moment_due, stage_at, turns_at}
 use Rattle.tk_app.specs.Turns.{Applications, BeginsIn, ChangesOnly}
 use Rattle.tk_app.proofs.Rounds.{turns_step}
 use Rattle.tk_host.specs.declared.phase.Phase.{Phase}
 use Rattle.tk_host.specs.Alone.{passed}
 use Rattle.tk_host.specs.Cut.{CutBy, CutByLine, CutShortBy, IsCutShort, TellsAll, TellsAtLeast}
-use Rattle.tk_host.specs.Held.{Call, Held, Hosted, after_line, after_start, gone_to, held_after}
+use Rattle.tk_host.specs.Held.{Call, HostState, Hosted, after_line, after_start, gone_to, held_after}
 use Rattle.tk_host.specs.Slots.{begun_at}
 use Rattle.tk_host.specs.Turns.{applications, stages_of, steps_left, turns_at_start, turns_given, turns_on_the_way}
 use Rattle.tk_host.proofs.Kept.{seen}
@@ -43,8 +43,8 @@ cut_more slice whole more told cut = record {
   taken = cut.taken;
   back = cut.back ++ more;
   whole_is = ap (λ ts. ts ++ more) cut.whole_is
-      ∙ append_assoc cut.front (entry cut.slot cut.next ++ cut.back) more
-      ∙ ap (λ ts. cut.front ++ ts) (append_assoc (entry cut.slot cut.next) cut.back more);
+      ∙ append_assoc cut.front (one_turn cut.slot cut.next ++ cut.back) more
+      ∙ ap (λ ts. cut.front ++ ts) (append_assoc (one_turn cut.slot cut.next) cut.back more);
   told_is = cut.told_is;
   few = cut.few;
 }
@@ -57,14 +57,14 @@ pub cut_as : (slice : ℕ) (whole other told : List Turn) → whole ≡ other �
 cut_as slice whole other told same cut = subst (λ ts. IsCutShort slice ts told) same cut
 
 -- the turn in which memory was refused
-pub cut_turn : {M : Type 0} (slice slot : ℕ) (old new : Applications M) → ChangesOnly slice slot old new → (next : ℕ) → IsCutShort slice (old.turns ++ entry slot next) new.turns
+pub cut_turn : {M : Type 0} (slice slot : ℕ) (old new : Applications M) → ChangesOnly slice slot old new → (next : ℕ) → IsCutShort slice (old.turns ++ one_turn slot next) new.turns
 cut_turn slice slot old new only next = record {
   front = old.turns;
   slot = slot;
   next = next;
   taken = only.before.application.steps - only.after.application.steps;
   back = [];
-  whole_is = ap (λ ts. old.turns ++ ts) (sym (append-nil (entry slot next)));
+  whole_is = ap (λ ts. old.turns ++ ts) (sym (append-nil (one_turn slot next)));
   told_is = only.told;
   few = omega (arith, only.most);
 }
@@ -72,16 +72,16 @@ cut_turn slice slot old new only next = record {
 module _ {M : Type 0} (answer : M → Meaning) where
   -- in the midst of a round
   pub cut_round : (slice slot : ℕ) (old now : Applications M) (more : Bool) (told : List Turn) → slot < length now.parts → Reaches answer slice slot old now more
-      → ((next : ℕ) → IsCutShort slice (now.turns ++ entry slot next) told) → IsCutShort slice (old.turns ++ round slice (map (needs answer old.moment) old.parts) 0) told
+      → ((next : ℕ) → IsCutShort slice (now.turns ++ one_turn slot next) told) → IsCutShort slice (old.turns ++ round slice (map (needs answer old.moment) old.parts) 0) told
   cut_round slice slot old now more told lt reaches cut =
       let all : List ℕ = map (needs answer old.moment) now.parts in
       let next : ℕ = min slice (get_or all slot 0 - 0 * slice) in
       let rest : List Turn = round_from (slot + 1) slice 0 (drop (slot + 1) all) in
-      let first : round_from slot slice 0 (drop slot all) ≡ entry slot next ++ rest =
+      let first : round_from slot slice 0 (drop slot all) ≡ one_turn slot next ++ rest =
       ap (round_from slot slice 0) (drop_more all slot 0 (omega (arith, length-map now.parts (needs answer old.moment), lt))) in
-      cut_as slice ((now.turns ++ entry slot next) ++ rest) (old.turns ++ round slice (map (needs answer old.moment) old.parts) 0) told
-      (append_assoc now.turns (entry slot next) rest ∙ ap (λ ts. now.turns ++ ts) (sym first) ∙ reaches.reached.told)
-      (cut_more slice (now.turns ++ entry slot next) rest told (cut next))
+      cut_as slice ((now.turns ++ one_turn slot next) ++ rest) (old.turns ++ round slice (map (needs answer old.moment) old.parts) 0) told
+      (append_assoc now.turns (one_turn slot next) rest ∙ ap (λ ts. now.turns ++ ts) (sym first) ∙ reaches.reached.told)
+      (cut_more slice (now.turns ++ one_turn slot next) rest told (cut next))
 
 -- a round is the first of a stage
 pub cut_stage : (slice : ℕ) (needed : List ℕ) (turns whole told : List Turn) → 1 ≤ slice → turns ++ turns_of slice needed ≡ whole → IsCutShort slice (turns ++ round slice needed 0) told → IsCutShort slice whole told
@@ -102,7 +102,7 @@ module _ {M : Type 0} (answer : M → Meaning) where
       cut_as slice (now.turns ++ rest) (start.turns ++ turns_on_the_way answer slice target (applications start.parts)) told way.turns (cut_at_once slice now.turns rest told is)
 
   -- and in one
-  pub cut_on_the_way : (slice target due : ℕ) (start before at begun : Applications M) (told : List Turn) → first_due next_due (settled answer) (applications before.parts) ≡ Some due → due ≤ target
+  pub cut_on_the_way : (slice target due : ℕ) (start before at begun : Applications M) (told : List Turn) → first_moment_due next_due (settled answer) (applications before.parts) ≡ Some due → due ≤ target
       → Way answer slice target start before → at ≡ record before { moment = due } → begun ≡ record at { parts = map (begun_at due) at.parts }
       → IsCutShort slice (begun.turns ++ turns_of slice (map (needs answer begun.moment) begun.parts)) told
       → IsCutShort slice (start.turns ++ turns_on_the_way answer slice target (applications start.parts)) told
@@ -209,4 +209,4 @@ pub cut_of_going : {T M : Type 0} (answer : M → Meaning) (calls : List (Call M
     → IfErr r (λ fault. CutBy fault (turns_on_the_way answer old.slice moment (applications (held_after answer calls).parts)) old new)
 cut_of_going {T} {M} answer calls r to moment old new held cut =
     cut_same r (gone_to answer to moment old).turns (turns_on_the_way answer old.slice moment (applications (held_after answer calls).parts)) old new
-    (ap (λ (h : Held M). turns_on_the_way answer old.slice moment (applications h.parts)) held) cut
+    (ap (λ (h : HostState M). turns_on_the_way answer old.slice moment (applications h.parts)) held) cut

@@ -9,7 +9,7 @@ use Rattle.tk_app.specs.Moments.{delivered, delivered_as, granted, settled}
 use Rattle.tk_app.specs.Seen.{Meaning}
 use Rattle.tk_app.specs.Spec.{Spec}
 use Rattle.tk_host.specs.Alone.{after_events, passed}
-use Rattle.tk_host.specs.FirstFormat.{AloneWithoutRefills, after_all_given, after_given, given_as}
+use Rattle.tk_host.specs.FirstFormat.{AloneWithoutRefills, after_events_without_refills, after_event_without_refills, given_as}
 use Rattle.tk_host.specs.Used.{before_event}
 use Rattle.tk_host.proofs.Used.{Fits, fits_before}
 
@@ -31,12 +31,12 @@ module _ {M : Type 0} (answer : M → Meaning) where
       by Exhausted = refl
       by Closed = refl
 
-  all_given : (spec : Spec M) (routed : List LocalEvent) → spec.budget.refill ≡ 0 → after_events answer spec routed ≡ after_all_given answer spec routed
+  all_given : (spec : Spec M) (routed : List LocalEvent) → spec.budget.refill ≡ 0 → after_events answer spec routed ≡ after_events_without_refills answer spec routed
   all_given spec [] none = refl
   all_given spec (event ∷ earlier) none =
       let before : Application M = before_event answer spec event earlier in
       ap (settled answer event.moment) (given spec event before (fits_before answer spec event earlier) none)
-      ∙ ap (λ (application : Application M). after_given answer event (passed answer event.moment application)) (all_given spec earlier none)
+      ∙ ap (λ (application : Application M). after_event_without_refills answer event (passed answer event.moment application)) (all_given spec earlier none)
 
   pub without_refills : AloneWithoutRefills answer
   without_refills spec routed last none = ap (passed answer last) (all_given spec routed none)

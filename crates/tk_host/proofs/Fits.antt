@@ -10,7 +10,7 @@ use Rattle.tk_app.specs.Seen.{Meaning}
 use Rattle.tk_app.specs.Spec.{Spec}
 use Rattle.tk_host.specs.declared.phase.Phase.{Phase}
 use Rattle.tk_host.specs.declared.phase.Phase.TheVariants.{Adding, Reached, Finished, Lost}
-use Rattle.tk_host.specs.Held.{Call, Held, application_in, first_rects, given_by, held_after, lines_of, parts_in, phase_after}
+use Rattle.tk_host.specs.Held.{Call, HostState, application_in, first_rects, given_by, held_after, lines_of, parts_in, phase_after}
 use Rattle.tk_host.specs.Slots.{FitsIn}
 use Rattle.tk_host.specs.Spec.{Given}
 use Rattle.tk_host.proofs.Used.{Fits, fits_alone_to}
@@ -32,6 +32,6 @@ module _ {M : Type 0} (answer : M → Meaning) where
       one_fits app.spec (application_in answer phase mine app.spec) (fits_in_phase phase mine app.spec)
   all_fit phase first lines n (suc slot) (app ∷ apps) = all_fit phase first lines (n + 1) slot apps
 
-  pub fits_held : (calls : List (Call M)) (held : Held M) → held ≡ held_after answer calls → (slot : ℕ) → FitsIn slot held.parts
+  pub fits_held : (calls : List (Call M)) (held : HostState M) → held ≡ held_after answer calls → (slot : ℕ) → FitsIn slot held.parts
   fits_held calls held is = λ slot.
-      subst (λ (h : Held M). FitsIn slot h.parts) (sym is) (all_fit (phase_after Adding calls) (first_rects calls) (lines_of calls) 0 slot (given_by calls))
+      subst (λ (h : HostState M). FitsIn slot h.parts) (sym is) (all_fit (phase_after Adding calls) (first_rects calls) (lines_of calls) 0 slot (given_by calls))

@@ -24,7 +24,7 @@ use Rattle.tk_host.specs.declared.phase.Phase.{Phase}
 use Rattle.tk_host.specs.declared.phase.Phase.TheVariants.{Adding, Reached, Finished, Lost}
 use Rattle.tk_host.specs.Spec.{Given, rect_of}
 use Rattle.tk_host.specs.Alone.{after_events, alone, passed}
-use Rattle.tk_host.specs.Held.{Held, Hosted, Call, AddApp, Start, LineAt, AdvanceTo, End, after_line, at_rest, with_passed, with_app, after_start, gone_to, given_by, first_rects, phase_after, lines_after, lines_of, application_in, part_in, parts_in, reached, held_in, held_after, turns_after}
+use Rattle.tk_host.specs.Held.{HostState, Hosted, Call, AddApp, Start, LineAt, AdvanceTo, End, after_line, at_rest, with_passed, with_app, after_start, gone_to, given_by, first_rects, phase_after, lines_after, lines_of, application_in, part_in, parts_in, reached, held_in, held_after, turns_after}
 use Rattle.tk_host.specs.Refusals.{PhaseRefuses}
 use Rattle.tk_host.specs.Sections.{EachByItself, sections_after}
 use Rattle.tk_host.specs.Turns.{after_each, after_given, applications, stages_of, steps_at_start, turns_at_start, turns_given, turns_on_the_way}
@@ -180,11 +180,11 @@ module _ {M : Type 0} (answer : M → Meaning) where
       (sym (lines_after-append [] calls (call ∷ []) ∙ tells))
 
   -- what it held, in the phase that it was in
-  was_in : (calls : List (Call M)) (old : Held M) (phase : Phase) → old ≡ held_after answer calls → old.phase ≡ phase → old ≡ held_in answer phase (given_by calls) (lines_of calls)
+  was_in : (calls : List (Call M)) (old : HostState M) (phase : Phase) → old ≡ held_after answer calls → old.phase ≡ phase → old ≡ held_in answer phase (given_by calls) (lines_of calls)
   was_in calls old phase held is =
-      held ∙ ap (λ p. held_in answer p (given_by calls) (lines_of calls)) (sym (ap (λ (h : Held M). h.phase) held) ∙ is)
+      held ∙ ap (λ p. held_in answer p (given_by calls) (lines_of calls)) (sym (ap (λ (h : HostState M). h.phase) held) ∙ is)
 
-  pub history_of_add : (calls : List (Call M)) (app : Given M) (old : Hosted M) (new : Held M) → old.held ≡ held_after answer calls → old.held.phase ≡ Adding → new ≡ (with_app app old).held
+  pub history_of_add : (calls : List (Call M)) (app : Given M) (old : Hosted M) (new : HostState M) → old.held ≡ held_after answer calls → old.held.phase ≡ Adding → new ≡ (with_app app old).held
       → new ≡ held_after answer (calls ++ AddApp app ∷ [])
   history_of_add calls app old new held adding now =
       let apps : List (Given M) = given_by calls in
@@ -196,19 +196,19 @@ module _ {M : Type 0} (answer : M → Meaning) where
       ∙ sym (map-append (λ (a : Given M). added a.spec) apps (app ∷ []))
       ∙ sym (adding_parts (map rect_of (apps ++ app ∷ [])) lines 0 (apps ++ app ∷ [])) in
       now
-      ∙ ap (λ (h : Held M). record { phase = h.phase; known = values (h.known.rects ++ rect_of app ∷ []) []; parts = h.parts ++ added app.spec ∷ [] }) (was_in calls old.held Adding held adding)
+      ∙ ap (λ (h : HostState M). record { phase = h.phase; known = values (h.known.rects ++ rect_of app ∷ []) []; parts = h.parts ++ added app.spec ∷ [] }) (was_in calls old.held Adding held adding)
       ∙ ap (λ rs. record { phase = Adding; known = values rs []; parts = parts_in answer Adding first lines 0 apps ++ added app.spec ∷ [] }) rects
       ∙ ap (λ ps. record { phase = Adding; known = values (map rect_of (apps ++ app ∷ [])) []; parts = ps }) parts
       ∙ held_same Adding (phase_after Adding (calls ++ AddApp app ∷ [])) (apps ++ app ∷ []) (given_by (calls ++ AddApp app ∷ [])) lines (lines_of (calls ++ AddApp app ∷ []))
-      (sym (phase_after-append Adding calls (AddApp app ∷ []) ∙ sym (ap (λ (h : Held M). h.phase) held) ∙ adding)) (sym (given_by-append calls (AddApp app ∷ []))) (sym (lines_after-append [] calls (AddApp app ∷ [])))
+      (sym (phase_after-append Adding calls (AddApp app ∷ []) ∙ sym (ap (λ (h : HostState M). h.phase) held) ∙ adding)) (sym (given_by-append calls (AddApp app ∷ []))) (sym (lines_after-append [] calls (AddApp app ∷ [])))
 
-  pub history_of_start : (calls : List (Call M)) (old : Hosted M) (new : Held M) → old.held ≡ held_after answer calls → old.held.phase ≡ Adding → new ≡ (after_start answer old).held
+  pub history_of_start : (calls : List (Call M)) (old : Hosted M) (new : HostState M) → old.held ≡ held_after answer calls → old.held.phase ≡ Adding → new ≡ (after_start answer old).held
       → new ≡ held_after answer (calls ++ Start ∷ [])
   history_of_start calls old new held adding now =
       let apps : List (Given M) = given_by calls in
       let first : List Rect = map rect_of apps in
       now
-      ∙ ap (λ (h : Held M). record { phase = Reached 0; known = h.known; parts = map (stage_done answer 0) h.parts }) (was_in calls old.held Adding held adding)
+      ∙ ap (λ (h : HostState M). record { phase = Reached 0; known = h.known; parts = map (stage_done answer 0) h.parts }) (was_in calls old.held Adding held adding)
       ∙ ap (λ ps. record { phase = Reached 0; known = values first []; parts = ps }) (started_parts first (lines_of calls) 0 apps)
       ∙ leads_on calls Start (Reached 0) [] refl refl refl
 
@@ -218,7 +218,7 @@ module _ {M : Type 0} (answer : M → Meaning) where
       let apps : List (Given M) = given_by calls in
       let first : List Rect = map rect_of apps in
       ap (λ (h : Hosted M). h.held) now
-      ∙ ap (λ (h : Held M). record { phase = Reached moment; known = h.known; parts = map (with_passed answer moment) h.parts }) (was_in calls old.held (Reached before) held from)
+      ∙ ap (λ (h : HostState M). record { phase = Reached moment; known = h.known; parts = map (with_passed answer moment) h.parts }) (was_in calls old.held (Reached before) held from)
       ∙ ap (λ ps. record { phase = Reached moment; known = values first (lines_of calls); parts = ps }) (brought_parts before moment le first (lines_of calls) 0 apps)
       ∙ leads_on calls (AdvanceTo moment) (Reached moment) (lines_of calls) refl refl refl
 
@@ -228,14 +228,14 @@ module _ {M : Type 0} (answer : M → Meaning) where
       let apps : List (Given M) = given_by calls in
       let first : List Rect = map rect_of apps in
       ap (λ (h : Hosted M). h.held) now
-      ∙ ap (λ (h : Held M). record { phase = Finished moment; known = h.known; parts = map (with_passed answer moment) h.parts }) (was_in calls old.held (Reached before) held from)
+      ∙ ap (λ (h : HostState M). record { phase = Finished moment; known = h.known; parts = map (with_passed answer moment) h.parts }) (was_in calls old.held (Reached before) held from)
       ∙ ap (λ ps. record { phase = Finished moment; known = values first (lines_of calls); parts = ps })
       (brought_parts before moment le first (lines_of calls) 0 apps ∙ finished_parts moment first (lines_of calls) 0 apps)
       ∙ leads_on calls (End moment) (Finished moment) (lines_of calls) refl refl refl
 
   -- what is known is known by the lines
-  pub known_lines : (calls : List (Call M)) (before : ℕ) (old : Held M) → old ≡ held_after answer calls → old.phase ≡ Reached before → old.known ≡ values (first_rects calls) (lines_of calls)
-  known_lines calls before old held from = ap (λ (h : Held M). h.known) (was_in calls old (Reached before) held from)
+  pub known_lines : (calls : List (Call M)) (before : ℕ) (old : HostState M) → old ≡ held_after answer calls → old.phase ≡ Reached before → old.known ≡ values (first_rects calls) (lines_of calls)
+  known_lines calls before old held from = ap (λ (h : HostState M). h.known) (was_in calls old (Reached before) held from)
 
   pub history_of_line : (calls : List (Call M)) (before moment : ℕ) (line : HostLine) (old new : Hosted M) → old.held ≡ held_after answer calls → old.held.phase ≡ Reached before → before ≤ moment
       → ((first : List Rect) (earlier : List Line) → old.held.known ≡ values first earlier → new ≡ after_line answer first earlier (at moment line) old)
@@ -245,7 +245,7 @@ module _ {M : Type 0} (answer : M → Meaning) where
       let first : List Rect = map rect_of apps in
       let lines : List Line = lines_of calls in
       ap (λ (h : Hosted M). h.held) (lined first lines (known_lines calls before old.held held from))
-      ∙ ap (λ (h : Held M). record {
+      ∙ ap (λ (h : HostState M). record {
         phase = Reached moment;
         known = values first (at moment line ∷ lines);
         parts = map at_rest (after_given answer 0 (routes first lines (at moment line)) (map (passed answer moment) (applications h.parts)));
@@ -263,14 +263,14 @@ module _ {M : Type 0} (answer : M → Meaning) where
   turns_of_start calls old new held adding now =
       let apps : List (Given M) = given_by calls in
       now
-      ∙ ap (λ (h : Held M). turns_at_start answer old.slice h.parts) (was_in calls old.held Adding held adding)
+      ∙ ap (λ (h : HostState M). turns_at_start answer old.slice h.parts) (was_in calls old.held Adding held adding)
       ∙ ap (λ ps. turns_at_start answer old.slice ps) (adding_parts (map rect_of apps) (lines_of calls) 0 apps)
       ∙ ap (turns_of old.slice) (map-map (needs answer 0) (λ (app : Given M). added app.spec) apps ∙ map_same (λ (app : Given M). needs answer 0 (added app.spec)) (λ app. steps_at_start answer app.spec) steps_of_start apps)
 
   pub turns_of_going : (calls : List (Call M)) (after : Phase) (moment : ℕ) (old new : Hosted M) → old.held ≡ held_after answer calls → new ≡ gone_to answer after moment old
       → new.turns ≡ turns_on_the_way answer old.slice moment (applications (held_after answer calls).parts)
   turns_of_going calls after moment old new held now =
-      ap (λ (h : Hosted M). h.turns) now ∙ ap (λ (h : Held M). turns_on_the_way answer old.slice moment (applications h.parts)) held
+      ap (λ (h : Hosted M). h.turns) now ∙ ap (λ (h : HostState M). turns_on_the_way answer old.slice moment (applications h.parts)) held
 
   pub turns_of_line : (calls : List (Call M)) (before moment : ℕ) (line : HostLine) (old new : Hosted M) → old.held ≡ held_after answer calls → old.held.phase ≡ Reached before
       → ((first : List Rect) (earlier : List Line) → old.held.known ≡ values first earlier → new ≡ after_line answer first earlier (at moment line) old)
@@ -280,7 +280,7 @@ module _ {M : Type 0} (answer : M → Meaning) where
       let lines : List Line = lines_of calls in
       let given : List Delivery = routes first lines (at moment line) in
       ap (λ (h : Hosted M). h.turns) (lined first lines (known_lines calls before old.held held from))
-      ∙ ap (λ (h : Held M). turns_on_the_way answer old.slice moment (applications h.parts)
+      ∙ ap (λ (h : HostState M). turns_on_the_way answer old.slice moment (applications h.parts)
       ++ turns_given answer old.slice (stages_of given) (map (passed answer moment) (applications h.parts))) held
 
   -- the turns that a line would have had
@@ -288,14 +288,14 @@ module _ {M : Type 0} (answer : M → Meaning) where
       → (after_line answer (first_rects calls) (lines_of calls) (at moment line) old).turns ≡ turns_after answer old.slice calls (LineAt moment line)
   whole_of_line calls moment line old held =
       let given : List Delivery = routes (first_rects calls) (lines_of calls) (at moment line) in
-      ap (λ (h : Held M). turns_on_the_way answer old.slice moment (applications h.parts)
+      ap (λ (h : HostState M). turns_on_the_way answer old.slice moment (applications h.parts)
       ++ turns_given answer old.slice (stages_of given) (map (passed answer moment) (applications h.parts))) held
 
   -- ── sections ──
 
   -- the sections of what is held are those of the applications by themselves
-  pub sections_of_held : (calls : List (Call M)) (held : Held M) → held ≡ held_after answer calls → map (λ part. section part.application) held.parts ≡ sections_after answer calls
-  sections_of_held calls held e = ap (λ (h : Held M). map (λ (part : Part M). section part.application) h.parts) e
+  pub sections_of_held : (calls : List (Call M)) (held : HostState M) → held ≡ held_after answer calls → map (λ part. section part.application) held.parts ≡ sections_after answer calls
+  sections_of_held calls held e = ap (λ (h : HostState M). map (λ (part : Part M). section part.application) h.parts) e
 
   part_at : (phase : Phase) (first : List Rect) (lines : List Line) (n i slot : ℕ) (apps : List (Given M)) (app : Given M) → n + i ≡ slot → slice_get apps i ≡ Some app
       → slice_get (parts_in answer phase first lines n apps) i ≡ Some (part_in answer phase (routed first lines slot) app)

@@ -8,7 +8,7 @@ use Rattle.tk_route.specs.Routes.{events_of, routes}
 use Rattle.tk_route.specs.Values.{Values}
 use Rattle.tk_route.specs.declared.delivery.Delivery.{Delivery}
 use Rattle.tk_app.specs.Rounds.{turns_of}
-use Rattle.tk_app.specs.Stages.{IsPast, earlier, first_due}
+use Rattle.tk_app.specs.Stages.{IsPast, earlier, first_moment_due}
 use Rattle.tk_app.proofs.Stages.{both_past, past_both}
 use Rattle.tk_app.specs.Application.{Application, next_due}
 use Rattle.tk_app.specs.Moments.{delivered, settled}
@@ -92,12 +92,12 @@ module _ {M : Type 0} (answer : M → Meaning) where
       (subst (λ m. IsPast m (next_due (settled answer event.moment (delivered event application)))) at.0 (settled_is_past answer event.moment (delivered event application)))
 
   -- once applications have done what comes of events, nothing is due of them by their moment
-  pub given_past : (moment slot : ℕ) (given : List Delivery) (apps : List (Application M)) → AreAt moment given → IsPast moment (first_due next_due (settled answer) apps)
-      → IsPast moment (first_due next_due (settled answer) (after_given answer slot given apps))
+  pub given_past : (moment slot : ℕ) (given : List Delivery) (apps : List (Application M)) → AreAt moment given → IsPast moment (first_moment_due next_due (settled answer) apps)
+      → IsPast moment (first_moment_due next_due (settled answer) (after_given answer slot given apps))
   given_past moment slot given [] at past = tt
   given_past moment slot given (application ∷ apps) at past =
-      let both = both_past moment (next_due application) (first_due next_due (settled answer) apps) past in
-      past_both moment (next_due (after_each answer (events_of slot given) application)) (first_due next_due (settled answer) (after_given answer (slot + 1) given apps))
+      let both = both_past moment (next_due application) (first_moment_due next_due (settled answer) apps) past in
+      past_both moment (next_due (after_each answer (events_of slot given) application)) (first_moment_due next_due (settled answer) (after_given answer (slot + 1) given apps))
       (each_past moment (events_of slot given) application (events_at moment slot given at) both.0) (given_past moment (slot + 1) given apps at both.1)
 
   -- ── the parts ──
@@ -124,12 +124,12 @@ module _ {M : Type 0} (answer : M → Meaning) where
         reached = λ last e. (
           omega (arith, start),
           subst AllRest (sym at) (start_rest answer parts held.1),
-          subst (λ n. IsPast n (first_due next_due (settled answer) (applications done))) (sym start)
-              (subst (λ ps. IsPast 0 (first_due next_due (settled answer) (applications ps))) (sym at) (start_past answer parts held.1)),
+          subst (λ n. IsPast n (first_moment_due next_due (settled answer) (applications done))) (sym start)
+              (subst (λ ps. IsPast 0 (first_moment_due next_due (settled answer) (applications ps))) (sym at) (start_past answer parts held.1)),
         );
       }
 
-  pub ready_gone : (phase : Phase) (moment clock : ℕ) (parts : List (Part M)) → IsAt moment phase → AllRest parts → IsPast clock (first_due next_due (settled answer) (applications parts)) → clock ≤ moment
+  pub ready_gone : (phase : Phase) (moment clock : ℕ) (parts : List (Part M)) → IsAt moment phase → AllRest parts → IsPast clock (first_moment_due next_due (settled answer) (applications parts)) → clock ≤ moment
       → IsReady answer phase clock parts
   ready_gone Adding moment clock parts at rest past ahead = absurd at
   ready_gone (Reached reached) moment clock parts at rest past ahead = record {
@@ -141,7 +141,7 @@ module _ {M : Type 0} (answer : M → Meaning) where
 
   -- after the events of a line
   pub ready_line : (moment clock : ℕ) (given : List Delivery) (apps : List (Application M)) (parts : List (Part M)) → clock ≡ moment → parts ≡ map at_rest (after_given answer 0 given apps) → AreAt moment given
-      → IsPast moment (first_due next_due (settled answer) apps) → IsReady answer (Reached moment) clock parts
+      → IsPast moment (first_moment_due next_due (settled answer) apps) → IsReady answer (Reached moment) clock parts
   ready_line moment clock given apps parts now is at past =
       let after : List (Application M) = after_given answer 0 given apps in
       record {
@@ -149,9 +149,9 @@ module _ {M : Type 0} (answer : M → Meaning) where
         reached = λ last e. let same : moment ≡ last = cc in (
           omega (arith, now, same),
           subst AllRest (sym is) (rest_at answer after),
-          subst (λ m. IsPast m (first_due next_due (settled answer) (applications parts))) (sym now)
-              (subst (λ ps. IsPast moment (first_due next_due (settled answer) (applications ps))) (sym is)
-              (subst (λ apps. IsPast moment (first_due next_due (settled answer) apps)) (sym (apps_at answer after)) (given_past moment 0 given apps at past))),
+          subst (λ m. IsPast m (first_moment_due next_due (settled answer) (applications parts))) (sym now)
+              (subst (λ ps. IsPast moment (first_moment_due next_due (settled answer) (applications ps))) (sym is)
+              (subst (λ apps. IsPast moment (first_moment_due next_due (settled answer) apps)) (sym (apps_at answer after)) (given_past moment 0 given apps at past))),
         );
       }
 

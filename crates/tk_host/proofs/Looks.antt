@@ -5,7 +5,7 @@ use Rattle.tk_app.specs.Inspection.{seen_in}
 use Rattle.tk_app.specs.Seen.{Meaning}
 use Rattle.tk_host.specs.declared.phase.Phase.{Phase}
 use Rattle.tk_host.specs.declared.phase.Phase.TheVariants.{Adding, Reached, Finished, Lost}
-use Rattle.tk_host.specs.Held.{AddApp, AdvanceTo, Call, End, Held, LineAt, Start, held_after, phase_after}
+use Rattle.tk_host.specs.Held.{AddApp, AdvanceTo, Call, End, HostState, LineAt, Start, held_after, phase_after}
 use Rattle.tk_host.specs.Inspection.{seen, seen_after, told_in}
 
 module _ {M T : Type 0} where
@@ -18,7 +18,7 @@ module _ {M T : Type 0} where
   told_after (AdvanceTo moment ∷ calls) phase x is = told_after calls (Reached moment) x refl
   told_after (End moment ∷ calls) phase x is = told_after calls (Finished moment) x refl
 
-module _ {M T : Type 0} (answer : M → Meaning) (look : Application M → Option T) (slot : ℕ) (calls : List (Call M)) (held : Held M) (is : held ≡ held_after answer calls) where
+module _ {M T : Type 0} (answer : M → Meaning) (look : Application M → Option T) (slot : ℕ) (calls : List (Call M)) (held : HostState M) (is : held ≡ held_after answer calls) where
   pub seen_by_history : seen look slot held ≡ seen_after answer look slot calls
   seen_by_history = ap (seen look slot) is ∙ told_after calls Adding (seen_after answer look slot calls) refl
 

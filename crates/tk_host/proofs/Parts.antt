@@ -1,7 +1,7 @@
 -- Parts at rest, and after a stage.
 use Rattle.std.proofs.Common.{◌≡◌, ◌-◌, ℕ, Bool, true, false, List, [], ◌∷◌, ◌++◌, map, Option, Some, None, refl, sym, ap, ◌∙◌, subst}
 use Rattle.std.specs.Prelude.{nat_eq, if◌then◌else◌}
-use Rattle.tk_app.specs.Stages.{IsPast, first_due, settled_if, settled_at, stage_at, used_at}
+use Rattle.tk_app.specs.Stages.{IsPast, first_moment_due, settled_if, settled_if_due_at, stage_at, used_at}
 use Rattle.tk_app.proofs.Stages.{past_both}
 use Rattle.tk_app.specs.Application.{Application, fresh, next_due}
 use Rattle.tk_app.specs.Moments.{settled, started}
@@ -27,7 +27,7 @@ module _ {M : Type 0} (answer : M → Meaning) where
 
   -- ── one part, in a stage ──
 
-  stage_of : (moment : ℕ) (part : Part M) → part.work ≡ Rests → stage_done answer moment (begun_at moment part) ≡ at_rest (settled_at next_due (settled answer) moment part.application)
+  stage_of : (moment : ℕ) (part : Part M) → part.work ≡ Rests → stage_done answer moment (begun_at moment part) ≡ at_rest (settled_if_due_at next_due (settled answer) moment part.application)
   stage_of moment part is = by (next_due part.application)
     where
       stays : stage_done answer moment part ≡ at_rest part.application
@@ -76,7 +76,7 @@ module _ {M : Type 0} (answer : M → Meaning) where
   stage_all moment [] rest = refl
   stage_all moment (p ∷ ps) rest =
       ap (λ q. q ∷ map (stage_done answer moment) (map (begun_at moment) ps)) (stage_of moment p rest.0)
-      ∙ ap (λ qs. at_rest (settled_at next_due (settled answer) moment p.application) ∷ qs) (stage_all moment ps rest.1)
+      ∙ ap (λ qs. at_rest (settled_if_due_at next_due (settled answer) moment p.application) ∷ qs) (stage_all moment ps rest.1)
 
   pub needs_all : (moment : ℕ) (parts : List (Part M)) → AllRest parts
       → map (needs answer moment) (map (begun_at moment) parts) ≡ map (used_at next_due (settled answer) steps_left moment) (applications parts)
@@ -102,12 +102,12 @@ module _ {M : Type 0} (answer : M → Meaning) where
       let spec : Spec M = new.0.0 in
       (ap (λ (q : Part M). (stage_done answer 0 q).work) new.0.1 ∙ ap (λ (q : Part M). q.work) (start_of spec), start_rest ps new.1)
 
-  pub start_past : (parts : List (Part M)) → AllAdded parts → IsPast 0 (first_due next_due (settled answer) (applications (map (stage_done answer 0) parts)))
+  pub start_past : (parts : List (Part M)) → AllAdded parts → IsPast 0 (first_moment_due next_due (settled answer) (applications (map (stage_done answer 0) parts)))
   start_past [] new = tt
   start_past (p ∷ ps) new =
       let spec : Spec M = new.0.0 in
       let is : (stage_done answer 0 p).application ≡ started answer 0 spec.script (fresh spec) = ap (λ (q : Part M). (stage_done answer 0 q).application) new.0.1 ∙ ap (λ (q : Part M). q.application) (start_of spec) in
-      past_both 0 (next_due (stage_done answer 0 p).application) (first_due next_due (settled answer) (applications (map (stage_done answer 0) ps)))
+      past_both 0 (next_due (stage_done answer 0 p).application) (first_moment_due next_due (settled answer) (applications (map (stage_done answer 0) ps)))
       (subst (λ a. IsPast 0 (next_due a)) (sym is) (started_is_past answer 0 spec.script (fresh spec))) (start_past ps new.1)
 
   pub added_more : (parts : List (Part M)) (spec : Spec M) → AllAdded parts → AllAdded (parts ++ added spec ∷ [])

@@ -4,7 +4,7 @@ use Rattle.std.specs.Prelude.{sum_by, nat_eq, nat_le, if◌then◌else◌}
 use Rattle.std.proofs.lemmas.Bool.{eqb-false, eqb-true, leb-false}
 use Rattle.tk_app.specs.Passing.{on_next, pass}
 use Rattle.tk_app.specs.declared.turns.Turn.{Turn}
-use Rattle.tk_app.specs.Stages.{IsPast, first_due, settled_if, stage_at, turns_at, used_at}
+use Rattle.tk_app.specs.Stages.{IsPast, first_moment_due, settled_if, stage_at, turns_at, used_at}
 use Rattle.tk_app.specs.Together.{turns_to}
 use Rattle.tk_app.proofs.Passing.{brought_brought, brought_late, brought_none, brought_step}
 use Rattle.tk_app.proofs.Rounds.{sum-cons, turns_none}
@@ -13,7 +13,7 @@ use Rattle.tk_app.proofs.Stages.{IsFrom, all_at, all_past, both_past, brought_pa
 use Rattle.tk_app.specs.Application.{Application, next_due}
 use Rattle.tk_app.specs.Moments.{settled}
 use Rattle.tk_host.specs.Alone.{at_moment, passed, passed_by}
-use Rattle.tk_host.specs.Dues.{PassesByDues, TurnsByDues, brought_by_dues, weight}
+use Rattle.tk_host.specs.Dues.{PassedByDues, TurnsByDues, brought_by_dues, weight}
 use Rattle.tk_host.specs.Turns.{steps_left, turns_on_the_way}
 use Rattle.tk_host.proofs.Settling.{settled_lighter}
 use Rattle.tk_app.specs.Seen.{Meaning}
@@ -67,36 +67,36 @@ module _ {M : Type 0} (answer : M → Meaning) where
   after : (moment : ℕ) (p : Application M) → IsPast moment (next_due p) → (due : ℕ) → next_due p ≡ Some due → suc moment ≤ due
   after moment p past due next = let late : moment < due = subst (IsPast moment) next past in omega (arith, late)
 
-  pub passes_by_dues_holds : PassesByDues answer
+  pub passed_by_dues_holds : PassedByDues answer
   unfolding passed_by
-  passes_by_dues_holds zero p = sym (at_one 0 p (λ due next. omega arith))
-  passes_by_dues_holds (suc moment) p =
+  passed_by_dues_holds zero p = sym (at_one 0 p (λ due next. omega arith))
+  passed_by_dues_holds (suc moment) p =
       let there = brought_by_dues answer moment p in
-      ap (at_moment answer (suc moment)) (passes_by_dues_holds moment p)
+      ap (at_moment answer (suc moment)) (passed_by_dues_holds moment p)
       ∙ sym (at_one (suc moment) there (after moment there (through moment p)))
       ∙ brought_brought next_due (settled answer) weight (settled_lighter answer) moment (suc moment) p (omega arith)
 
   all_by_dues : (last : ℕ) (apps : List (Application M)) → map (passed answer last) apps ≡ map (brought_by_dues answer last) apps
   all_by_dues last [] = refl
   all_by_dues last (app ∷ apps) =
-      ap (λ (a : Application M). a ∷ map (passed answer last) apps) (passes_by_dues_holds last app) ∙ ap (λ rest. brought_by_dues answer last app ∷ rest) (all_by_dues last apps)
+      ap (λ (a : Application M). a ∷ map (passed answer last) apps) (passed_by_dues_holds last app) ∙ ap (λ rest. brought_by_dues answer last app ∷ rest) (all_by_dues last apps)
 
   -- ── on the way ──
 
   -- to a moment and then on to a later one is to the later one
   pub passed_passed : (first last : ℕ) (application : Application M) → first ≤ last → passed answer last (passed answer first application) ≡ passed answer last application
   passed_passed first last application le =
-      ap (passed answer last) (passes_by_dues_holds first application)
-      ∙ passes_by_dues_holds last (brought_by_dues answer first application)
+      ap (passed answer last) (passed_by_dues_holds first application)
+      ∙ passed_by_dues_holds last (brought_by_dues answer first application)
       ∙ brought_brought next_due (settled answer) weight (settled_lighter answer) first last application le
-      ∙ sym (passes_by_dues_holds last application)
+      ∙ sym (passed_by_dues_holds last application)
 
   -- and an application of which nothing is due by then is there
   pub passed_past : (last : ℕ) (application : Application M) → IsPast last (next_due application) → passed answer last application ≡ application
   passed_past last application past =
-      passes_by_dues_holds last application ∙ brought_past next_due (settled answer) weight (settled_lighter answer) last application past
+      passed_by_dues_holds last application ∙ brought_past next_due (settled answer) weight (settled_lighter answer) last application past
 
-  pub all_passed : (last : ℕ) (apps : List (Application M)) → IsPast last (first_due next_due (settled answer) apps) → map (passed answer last) apps ≡ apps
+  pub all_passed : (last : ℕ) (apps : List (Application M)) → IsPast last (first_moment_due next_due (settled answer) apps) → map (passed answer last) apps ≡ apps
   all_passed last apps past = all_by_dues last apps ∙ all_past next_due (settled answer) weight (settled_lighter answer) last apps past
 
   pub all_through : (last moment : ℕ) (apps : List (Application M)) → moment ≤ last → map (passed answer last) (stage_at next_due (settled answer) moment apps) ≡ map (passed answer last) apps
@@ -105,7 +105,7 @@ module _ {M : Type 0} (answer : M → Meaning) where
       ∙ all_at next_due (settled answer) weight (settled_lighter answer) last moment apps le
       ∙ sym (all_by_dues last apps)
 
-  pub lighter_by_stage : (apps : List (Application M)) (due : ℕ) → first_due next_due (settled answer) apps ≡ Some due → sum_by weight (stage_at next_due (settled answer) due apps) < sum_by weight apps
+  pub lighter_by_stage : (apps : List (Application M)) (due : ℕ) → first_moment_due next_due (settled answer) apps ≡ Some due → sum_by weight (stage_at next_due (settled answer) due apps) < sum_by weight apps
   lighter_by_stage apps due next = stage_lighter next_due (settled answer) weight (settled_lighter answer) apps due next
 
   -- ── turns: of the moments, and of those at which something is due ──
@@ -131,24 +131,24 @@ module _ {M : Type 0} (answer : M → Meaning) where
       by None past = omega arith
       by (Some due) late = by_test due (nat_eq due moment) refl late
 
-  all_taken : (moment : ℕ) (apps : List (Application M)) → IsPast moment (first_due next_due (settled answer) apps) → sum (map (taken moment) apps) ≡ 0
+  all_taken : (moment : ℕ) (apps : List (Application M)) → IsPast moment (first_moment_due next_due (settled answer) apps) → sum (map (taken moment) apps) ≡ 0
   all_taken moment [] past = refl
   all_taken moment (app ∷ apps) past =
-      let both = both_past moment (next_due app) (first_due next_due (settled answer) apps) past in
+      let both = both_past moment (next_due app) (first_moment_due next_due (settled answer) apps) past in
       omega (arith, sum-cons (taken moment app) (map (taken moment) apps), none_taken moment app both.0, all_taken moment apps both.1)
 
   -- so nobody has a turn then
-  nobody : (slice moment : ℕ) (apps : List (Application M)) → IsPast moment (first_due next_due (settled answer) apps) → stage slice moment apps ≡ []
+  nobody : (slice moment : ℕ) (apps : List (Application M)) → IsPast moment (first_moment_due next_due (settled answer) apps) → stage slice moment apps ≡ []
   nobody slice moment apps past = turns_none slice (map (taken moment) apps) (all_taken moment apps past)
 
   -- a moment before which nothing is due
-  at_first : (slice moment : ℕ) (apps : List (Application M)) → IsFrom moment (first_due next_due (settled answer) apps) → told slice moment apps ≡ stage slice moment apps
-  at_first slice moment apps from = by (first_due next_due (settled answer) apps) refl from
+  at_first : (slice moment : ℕ) (apps : List (Application M)) → IsFrom moment (first_moment_due next_due (settled answer) apps) → told slice moment apps ≡ stage slice moment apps
+  at_first slice moment apps from = by (first_moment_due next_due (settled answer) apps) refl from
     where
-      none : IsPast moment (first_due next_due (settled answer) apps) → told slice moment apps ≡ stage slice moment apps
+      none : IsPast moment (first_moment_due next_due (settled answer) apps) → told slice moment apps ≡ stage slice moment apps
       none past = told_past next_due (settled answer) weight (settled_lighter answer) steps_left slice moment apps past ∙ sym (nobody slice moment apps past)
 
-      by_test : (due : ℕ) (b : Bool) → first_due next_due (settled answer) apps ≡ Some due → nat_eq due moment ≡ b → moment ≤ due → told slice moment apps ≡ stage slice moment apps
+      by_test : (due : ℕ) (b : Bool) → first_moment_due next_due (settled answer) apps ≡ Some due → nat_eq due moment ≡ b → moment ≤ due → told slice moment apps ≡ stage slice moment apps
       by_test due true next is le =
           let here = stage_at next_due (settled answer) moment apps in
           told_step next_due (settled answer) weight (settled_lighter answer) steps_left slice moment moment apps (next ∙ ap Some (eqb-true due moment is)) (omega arith)
@@ -158,14 +158,14 @@ module _ {M : Type 0} (answer : M → Meaning) where
           ∙ append-nil (stage slice moment apps)
       by_test due false next is le = none (rw next (omega (arith, eqb-false due moment is, le)))
 
-      by : (o : Option ℕ) → first_due next_due (settled answer) apps ≡ o → IsFrom moment o → told slice moment apps ≡ stage slice moment apps
+      by : (o : Option ℕ) → first_moment_due next_due (settled answer) apps ≡ o → IsFrom moment o → told slice moment apps ≡ stage slice moment apps
       by None next le = none (rw next tt)
       by (Some due) next le = by_test due (nat_eq due moment) next refl le
 
-  all_brought : (moment : ℕ) (apps : List (Application M)) → IsPast moment (first_due next_due (settled answer) (map (brought_by_dues answer moment) apps))
+  all_brought : (moment : ℕ) (apps : List (Application M)) → IsPast moment (first_moment_due next_due (settled answer) (map (brought_by_dues answer moment) apps))
   all_brought moment [] = tt
   all_brought moment (app ∷ apps) =
-      past_both moment (next_due (brought_by_dues answer moment app)) (first_due next_due (settled answer) (map (brought_by_dues answer moment) apps)) (through moment app) (all_brought moment apps)
+      past_both moment (next_due (brought_by_dues answer moment app)) (first_moment_due next_due (settled answer) (map (brought_by_dues answer moment) apps)) (through moment app) (all_brought moment apps)
 
   from_start : (o : Option ℕ) → IsFrom 0 o
   from_start None = tt
@@ -177,15 +177,15 @@ module _ {M : Type 0} (answer : M → Meaning) where
 
   pub turns_by_dues_holds : TurnsByDues answer
   unfolding turns_on_the_way
-  turns_by_dues_holds slice zero apps = sym (at_first slice 0 apps (from_start (first_due next_due (settled answer) apps)))
+  turns_by_dues_holds slice zero apps = sym (at_first slice 0 apps (from_start (first_moment_due next_due (settled answer) apps)))
   turns_by_dues_holds slice (suc moment) apps =
       let there = map (brought_by_dues answer moment) apps in
       ap (λ ts. ts ++ stage slice (suc moment) (map (passed answer moment) apps)) (turns_by_dues_holds slice moment apps)
       ∙ ap (λ later. told slice moment apps ++ stage slice (suc moment) later) (all_by_dues moment apps)
-      ∙ ap (λ ts. told slice moment apps ++ ts) (sym (at_first slice (suc moment) there (from_next moment (first_due next_due (settled answer) there) (all_brought moment apps))))
+      ∙ ap (λ ts. told slice moment apps ++ ts) (sym (at_first slice (suc moment) there (from_next moment (first_moment_due next_due (settled answer) there) (all_brought moment apps))))
       ∙ sym (told_in_two next_due (settled answer) weight (settled_lighter answer) steps_left slice moment (suc moment) apps (omega arith))
 
-  pub way_through : (slice last due : ℕ) (apps : List (Application M)) → first_due next_due (settled answer) apps ≡ Some due → due ≤ last
+  pub way_through : (slice last due : ℕ) (apps : List (Application M)) → first_moment_due next_due (settled answer) apps ≡ Some due → due ≤ last
       → turns_on_the_way answer slice last apps ≡ turns_at next_due (settled answer) steps_left slice due apps ++ turns_on_the_way answer slice last (stage_at next_due (settled answer) due apps)
   way_through slice last due apps next le =
       let there = stage_at next_due (settled answer) due apps in
@@ -193,6 +193,6 @@ module _ {M : Type 0} (answer : M → Meaning) where
       ∙ told_step next_due (settled answer) weight (settled_lighter answer) steps_left slice last due apps next le
       ∙ ap (λ ts. stage slice due apps ++ ts) (sym (turns_by_dues_holds slice last there))
 
-  pub way_past : (slice last : ℕ) (apps : List (Application M)) → IsPast last (first_due next_due (settled answer) apps) → turns_on_the_way answer slice last apps ≡ []
+  pub way_past : (slice last : ℕ) (apps : List (Application M)) → IsPast last (first_moment_due next_due (settled answer) apps) → turns_on_the_way answer slice last apps ≡ []
   way_past slice last apps past =
       turns_by_dues_holds slice last apps ∙ told_past next_due (settled answer) weight (settled_lighter answer) steps_left slice last apps past

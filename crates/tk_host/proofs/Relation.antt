@@ -12,7 +12,7 @@ use Rattle.tk_app.proofs.Stages.{brought_past}
 use Rattle.tk_host.specs.Dues.{brought_by_dues, weight}
 use Rattle.tk_host.specs.Passes.{PassedPasses, Passes}
 use Rattle.tk_host.specs.Passes.Passes.{goes_on, reached}
-use Rattle.tk_host.proofs.Passing.{passes_by_dues_holds}
+use Rattle.tk_host.proofs.Passing.{passed_by_dues_holds}
 use Rattle.tk_host.proofs.Settling.{settled_lighter}
 
 module _ {M : Type 0} (answer : M → Meaning) where
@@ -47,7 +47,7 @@ module _ {M : Type 0} (answer : M → Meaning) where
 
   pub passed_passes : PassedPasses answer
   passed_passes last application after = (
-    (λ there. passes_by_dues_holds answer last application ∙ sound last application after there),
-    (λ same. subst (λ (q : Application M). Reaches last application q) (sym (passes_by_dues_holds answer last application) ∙ same)
+    (λ there. passed_by_dues_holds answer last application ∙ sound last application after there),
+    (λ same. subst (λ (q : Application M). Reaches last application q) (sym (passed_by_dues_holds answer last application) ∙ same)
         (complete last (weight application) application (omega arith))),
   )

@@ -2,8 +2,8 @@
 use Rattle.std.proofs.Common.{◌≡◌, ℕ, zero, suc, ◌+◌, ◌-◌, ◌≤◌, ◌<◌, ◌++◌, ◌||◌, min, Bool, true, false, List, [], ◌∷◌, length, get_or, set, map, drop, Option, Some, None, refl, sym, ap, ◌∙◌, subst, append-nil, arith}
 use Rattle.std.specs.Prelude.{slice_get, option_map, sum}
 use Rattle.std.proofs.Common.{length-set}
-use Rattle.tk_app.specs.Rounds.{entry}
-use Rattle.tk_app.specs.Stages.{earlier, first_due}
+use Rattle.tk_app.specs.Rounds.{one_turn}
+use Rattle.tk_app.specs.Stages.{earlier, first_moment_due}
 use Rattle.tk_app.proofs.Reached.{Reached, TookTurn, reached_more}
 use Rattle.tk_app.proofs.Rounds.{sum-cons}
 use Rattle.tk_app.specs.declared.state.AppEnd.{AppEnd}
@@ -48,14 +48,14 @@ module _ {M : Type 0} (answer : M → Meaning) where
   earlier_assoc (Some x) (Some y) (Some z) = let least : min x (min y z) ≡ min (min x y) z = omega arith in ap Some least
 
   pub due_there : (ps : List (Part M)) (i : ℕ) (first o : Option ℕ) → option_map (λ (part : Part M). next_due part.application) (slice_get ps i) ≡ Some o
-      → earlier first (first_due next_due (settled answer) (drop i (applications ps))) ≡ earlier (earlier first o) (first_due next_due (settled answer) (drop (i + 1) (applications ps)))
+      → earlier first (first_moment_due next_due (settled answer) (drop i (applications ps))) ≡ earlier (earlier first o) (first_moment_due next_due (settled answer) (drop (i + 1) (applications ps)))
   due_there [] i first o told = cc
   due_there (p ∷ ps) zero first o told =
       let same : next_due p.application ≡ o = cc in
-      ap (λ d. earlier first (earlier d (first_due next_due (settled answer) (applications ps)))) same ∙ earlier_assoc first o (first_due next_due (settled answer) (applications ps))
+      ap (λ d. earlier first (earlier d (first_moment_due next_due (settled answer) (applications ps)))) same ∙ earlier_assoc first o (first_moment_due next_due (settled answer) (applications ps))
   due_there (p ∷ ps) (suc i) first o told =
       let more : suc i + 1 ≡ suc (i + 1) = omega arith in
-      due_there ps i first o told ∙ ap (λ n. earlier (earlier first o) (first_due next_due (settled answer) (drop n (applications (p ∷ ps))))) (sym more)
+      due_there ps i first o told ∙ ap (λ n. earlier (earlier first o) (first_moment_due next_due (settled answer) (drop n (applications (p ∷ ps))))) (sym more)
 
   -- ── turns ──
 
@@ -88,7 +88,7 @@ module _ {M : Type 0} (answer : M → Meaning) where
         changed = sym (set_same held.parts slot part there.1);
         same = refl;
         left = omega (arith, none);
-        told = sym (append-nil held.turns) ∙ ap (λ n. held.turns ++ entry slot n) (sym nothing);
+        told = sym (append-nil held.turns) ∙ ap (λ n. held.turns ++ one_turn slot n) (sym nothing);
         last = λ e. sym done;
         more = λ e. cc;
         moment = refl;
@@ -109,7 +109,7 @@ module _ {M : Type 0} (answer : M → Meaning) where
         changed = settles.changed;
         same = settles.turn.same ∙ ap (stage_done answer old.moment) begun;
         left = settles.turn.left ∙ ap (λ p. needs answer old.moment p - slice) begun;
-        told = settles.told ∙ ap (λ p. old.turns ++ entry slot (min slice (needs answer old.moment p))) begun;
+        told = settles.told ∙ ap (λ p. old.turns ++ one_turn slot (min slice (needs answer old.moment p))) begun;
         last = λ e. settles.turn.last (done e) ∙ ap (stage_done answer old.moment) begun;
         more = λ e. let le : slice ≤ needs answer old.moment (settling_begun settles.before) = settles.turn.more (goes_on e) in omega (arith, le, ap (needs answer old.moment) begun);
         moment = settles.moment;
@@ -144,7 +144,7 @@ module _ {M : Type 0} (answer : M → Meaning) where
       let took : TookTurn (stage_done answer m) (needs answer m) slice slot turn.before turn.after now.turns new.turns again = record {
         same = ap (λ n. stage_done answer n turn.after) (sym is) ∙ turn.same ∙ ap (λ n. stage_done answer n turn.before) is;
         left = ap (λ n. needs answer n turn.after) (sym is) ∙ turn.left ∙ ap (λ n. needs answer n turn.before - slice) is;
-        told = turn.told ∙ ap (λ n. now.turns ++ entry slot (min slice (needs answer n turn.before))) is;
+        told = turn.told ∙ ap (λ n. now.turns ++ one_turn slot (min slice (needs answer n turn.before))) is;
         last = λ e. turn.last e ∙ ap (λ n. stage_done answer n turn.before) is;
         more = λ e. omega (arith, turn.more e, ap (λ n. needs answer n turn.before) is);
       } in

@@ -4,7 +4,7 @@ use Rattle.std.specs.Prelude.{nat_eq, slice_get, option_map, sum_by, if◌then�
 use Rattle.std.proofs.lemmas.Bool.{eqb-true}
 use Rattle.std.proofs.lemmas.List.Edits.{map_over_more}
 use Rattle.tk_app.specs.Rounds.{turns_of}
-use Rattle.tk_app.specs.Stages.{IsPast, first_due, stage_at, turns_at}
+use Rattle.tk_app.specs.Stages.{IsPast, first_moment_due, stage_at, turns_at}
 use Rattle.tk_app.proofs.Stages.{IsFrom, stage_past}
 use Rattle.tk_app.specs.Application.{Application, next_due}
 use Rattle.tk_app.specs.Moments.{settled}
@@ -90,7 +90,7 @@ module _ {M : Type 0} (answer : M → Meaning) where
   -- what is left to be done comes to what all does
   pub record Way (slice target : ℕ) (start now : Applications M) : Type 0 where
     pub rest : AllRest now.parts
-    pub past : IsPast now.moment (first_due next_due (settled answer) (applications now.parts))
+    pub past : IsPast now.moment (first_moment_due next_due (settled answer) (applications now.parts))
     pub ahead : now.moment ≤ target
     pub brought : map (passed answer target) (applications now.parts) ≡ map (passed answer target) (applications start.parts)
     pub turns : now.turns ++ turns_on_the_way answer slice target (applications now.parts) ≡ start.turns ++ turns_on_the_way answer slice target (applications start.parts)
@@ -108,7 +108,7 @@ module _ {M : Type 0} (answer : M → Meaning) where
   stage_apps due before at begun after rest on begins done =
       ap applications (stage_parts due before at begun after rest on begins done) ∙ apps_at answer (stage_at next_due (settled answer) due (applications before.parts))
 
-  pub way_on : (slice target due : ℕ) (start before at begun after : Applications M) → first_due next_due (settled answer) (applications before.parts) ≡ Some due → due ≤ target → Way slice target start before
+  pub way_on : (slice target due : ℕ) (start before at begun after : Applications M) → first_moment_due next_due (settled answer) (applications before.parts) ≡ Some due → due ≤ target → Way slice target start before
       → at ≡ record before { moment = due } → begun ≡ record at { parts = map (begun_at due) at.parts }
       → after.moment ≡ begun.moment → after.parts ≡ map (stage_done answer begun.moment) begun.parts → after.turns ≡ begun.turns ++ turns_of slice (map (needs answer begun.moment) begun.parts)
       → Way slice target start after
@@ -118,14 +118,14 @@ module _ {M : Type 0} (answer : M → Meaning) where
       let both : begun ≡ record before { moment = due; parts = map (begun_at due) before.parts } = begins ∙ ap (λ (h : Applications M). record h { parts = map (begun_at due) h.parts }) on in
       let now : after.moment ≡ due = moment ∙ ap (λ (h : Applications M). h.moment) both in
       let is : applications after.parts ≡ there = stage_apps due before at begun after way.rest on begins done in
-      let from : IsFrom due (first_due next_due (settled answer) apps) = rw next (omega arith) in
-      let past : IsPast due (first_due next_due (settled answer) there) = stage_past next_due (settled answer) weight (settled_lighter answer) due apps (settled_is_past answer due) from in
+      let from : IsFrom due (first_moment_due next_due (settled answer) apps) = rw next (omega arith) in
+      let past : IsPast due (first_moment_due next_due (settled answer) there) = stage_past next_due (settled answer) weight (settled_lighter answer) due apps (settled_is_past answer due) from in
       let here : after.turns ≡ before.turns ++ turns_at next_due (settled answer) steps_left slice due apps =
       told ∙ ap (λ (h : Applications M). h.turns ++ turns_of slice (map (needs answer h.moment) h.parts)) both
       ∙ ap (λ ns. before.turns ++ turns_of slice ns) (needs_all answer due before.parts way.rest) in
       record {
         rest = subst AllRest (sym (stage_parts due before at begun after way.rest on begins done)) (rest_at answer there);
-        past = subst (λ m. IsPast m (first_due next_due (settled answer) (applications after.parts))) (sym now) (subst (λ apps. IsPast due (first_due next_due (settled answer) apps)) (sym is) past);
+        past = subst (λ m. IsPast m (first_moment_due next_due (settled answer) (applications after.parts))) (sym now) (subst (λ apps. IsPast due (first_moment_due next_due (settled answer) apps)) (sym is) past);
         ahead = omega (arith, now, le);
         brought = ap (map (passed answer target)) is ∙ all_through answer target due apps le ∙ way.brought;
         turns =
@@ -137,7 +137,7 @@ module _ {M : Type 0} (answer : M → Meaning) where
       }
 
   -- each stage takes a step or is the last of an application
-  pub way_lighter : (due : ℕ) (before at begun after : Applications M) → first_due next_due (settled answer) (applications before.parts) ≡ Some due → AllRest before.parts → at ≡ record before { moment = due }
+  pub way_lighter : (due : ℕ) (before at begun after : Applications M) → first_moment_due next_due (settled answer) (applications before.parts) ≡ Some due → AllRest before.parts → at ≡ record before { moment = due }
       → begun ≡ record at { parts = map (begun_at due) at.parts } → after.parts ≡ map (stage_done answer begun.moment) begun.parts
       → sum_by weight (applications after.parts) < sum_by weight (applications before.parts)
   way_lighter due before at begun after next rest on begins done =
@@ -145,11 +145,11 @@ module _ {M : Type 0} (answer : M → Meaning) where
 
   -- ── the end of the way ──
 
-  pub way_brought : (slice target : ℕ) (start now : Applications M) → Way slice target start now → IsPast target (first_due next_due (settled answer) (applications now.parts))
+  pub way_brought : (slice target : ℕ) (start now : Applications M) → Way slice target start now → IsPast target (first_moment_due next_due (settled answer) (applications now.parts))
       → applications now.parts ≡ map (passed answer target) (applications start.parts)
   way_brought slice target start now way past = sym (all_passed answer target (applications now.parts) past) ∙ way.brought
 
-  pub way_told : (slice target : ℕ) (start now : Applications M) → Way slice target start now → IsPast target (first_due next_due (settled answer) (applications now.parts))
+  pub way_told : (slice target : ℕ) (start now : Applications M) → Way slice target start now → IsPast target (first_moment_due next_due (settled answer) (applications now.parts))
       → now.turns ≡ start.turns ++ turns_on_the_way answer slice target (applications start.parts)
   way_told slice target start now way past =
       sym (append-nil now.turns) ∙ ap (λ ts. now.turns ++ ts) (sym (way_past answer slice target (applications now.parts) past)) ∙ way.turns

@@ -7,14 +7,14 @@ use Rattle.tk_app.specs.Moments.{delivered, settled_by, started_by}
 use Rattle.tk_app.specs.Seen.{Meaning}
 use Rattle.tk_app.specs.Settle.{settle_meaning}
 use Rattle.tk_app.specs.Spec.{Spec}
-use Rattle.tk_app.specs.Stages.{settled_at}
+use Rattle.tk_app.specs.Stages.{settled_if_due_at}
 
 module _ {M : Type 0} (answer : M → Meaning) where
   -- by what *Settle* is
   module _ (settle : Continuation) where
     -- a moment has come: where something of the application's own is due then, what is to be done then has been done
     abbrev pub at_moment_by : ℕ → Application M → Application M
-    at_moment_by moment application = settled_at next_due (settled_by answer settle) moment application
+    at_moment_by moment application = settled_if_due_at next_due (settled_by answer settle) moment application
 
     -- The moments up to a last one have come, each after the one before it, from 0 on. In one that the application has reached before, nothing is
     -- due any more. By its due moments alone, the earliest first, the relation *Passes* says it (`Passes`).
@@ -36,7 +36,7 @@ module _ {M : Type 0} (answer : M → Meaning) where
     abbrev pub alone_by : Spec M → List LocalEvent → ℕ → Application M
     alone_by spec routed last = passed_by last (after_events_by spec routed)
 
-  -- *Settle* is what its job comes to. By anything else that meets its equation all of this is the same (`AloneBySettle`).
+  -- *Settle* is what its job comes to. By anything else that meets its equation all of this is the same (`AloneBySettle`, `PassedBySettle`).
   abbrev pub at_moment : ℕ → Application M → Application M
   at_moment = at_moment_by settle_meaning
 

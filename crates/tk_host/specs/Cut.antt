@@ -6,7 +6,7 @@ use Rattle.tk_route.specs.declared.fault.HostFault.{HostFault}
 use Rattle.tk_route.specs.declared.fault.HostFault.TheVariants.{Refused, NoMemory}
 use Rattle.tk_app.specs.declared.turns.Turn.{Turn}
 use Rattle.tk_app.specs.Part.{Part}
-use Rattle.tk_app.specs.Rounds.{entry}
+use Rattle.tk_app.specs.Rounds.{one_turn}
 use Rattle.tk_app.specs.Shares.{taken_by}
 use Rattle.tk_host.specs.Held.{Hosted}
 
@@ -18,8 +18,8 @@ pub record IsCutShort (slice : ℕ) (whole told : List Turn) : Type 0 where
   pub next : ℕ
   pub taken : ℕ
   pub back : List Turn
-  pub whole_is : whole ≡ front ++ (entry slot next ++ back)
-  pub told_is : told ≡ front ++ entry slot taken
+  pub whole_is : whole ≡ front ++ (one_turn slot next ++ back)
+  pub told_is : told ≡ front ++ one_turn slot taken
   pub few : taken ≤ slice
 
 -- The turns of a call in which memory was refused are cut short; one that was refused with a number took none.

@@ -25,8 +25,8 @@ module _ {M : Type 0} (answer : M → Meaning) where
   brought_by_dues last application = brought next_due (settled answer) weight last application
 
   -- The moments that come, one after another, are those at which something is due, the earliest first: in the others nothing is done.
-  abbrev pub PassesByDues : Type 0
-  PassesByDues = (last : ℕ) (application : Application M) → passed answer last application ≡ brought_by_dues last application
+  abbrev pub PassedByDues : Type 0
+  PassedByDues = (last : ℕ) (application : Application M) → passed answer last application ≡ brought_by_dues last application
 
   -- So are the turns on the way: in a moment at which nothing is due nobody has one.
   abbrev pub TurnsByDues : Type 0

@@ -18,16 +18,16 @@ given_as Closed event application = application
 
 module _ {M : Type 0} (answer : M → Meaning) where
   -- and what comes of it then is done
-  abbrev pub after_given : LocalEvent → Application M → Application M
-  after_given event application = settled answer event.moment (given_as application.state event application)
+  abbrev pub after_event_without_refills : LocalEvent → Application M → Application M
+  after_event_without_refills event application = settled answer event.moment (given_as application.state event application)
 
   -- such an application by itself, with the newest event first
-  abbrev pub after_all_given : Spec M → List LocalEvent → Application M
-  after_all_given spec [] = started answer 0 spec.script (fresh spec)
-  after_all_given spec (event ∷ earlier) = after_given event (passed answer event.moment (after_all_given spec earlier))
+  abbrev pub after_events_without_refills : Spec M → List LocalEvent → Application M
+  after_events_without_refills spec [] = started answer 0 spec.script (fresh spec)
+  after_events_without_refills spec (event ∷ earlier) = after_event_without_refills event (passed answer event.moment (after_events_without_refills spec earlier))
 
   abbrev pub alone_without_refills : Spec M → List LocalEvent → ℕ → Application M
-  alone_without_refills spec routed last = passed answer last (after_all_given spec routed)
+  alone_without_refills spec routed last = passed answer last (after_events_without_refills spec routed)
 
   -- Where the refill is 0, *Alone* is the same without any.
   abbrev pub AloneWithoutRefills : Type 0

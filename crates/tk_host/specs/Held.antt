@@ -20,14 +20,14 @@ use Rattle.tk_host.specs.Turns.{after_given, applications, stages_of, steps_at_s
 
 -- A host: how far it has come, what it knows of the screen and the keyboard, with the applications' rectangles by their slots, and the applications,
 -- each with what is under way in it.
-pub record Held (M : Type 0) : Type 0 where
+pub record HostState (M : Type 0) : Type 0 where
   pub phase : Phase
   pub known : Values
   pub parts : List (Part M)
 
 -- and beside that how many steps a turn has at most, and the turns of the last call that ran applications
 pub record Hosted (M : Type 0) : Type 0 where
-  pub held : Held M
+  pub held : HostState M
   pub slice : ℕ
   pub turns : List Turn
 
@@ -176,7 +176,7 @@ module _ {M : Type 0} (answer : M → Meaning) where
   parts_in phase first lines slot (app ∷ apps) = part_in phase (routed first lines slot) app ∷ parts_in phase first lines (slot + 1) apps
 
   -- what is held in a phase, of these applications and after these lines
-  abbrev pub held_in : Phase → List (Given M) → List Line → Held M
+  abbrev pub held_in : Phase → List (Given M) → List Line → HostState M
   held_in phase apps lines =
       record {
         phase = phase;
@@ -185,7 +185,7 @@ module _ {M : Type 0} (answer : M → Meaning) where
       }
 
   -- What a host holds after these calls: each application as it is by itself.
-  abbrev pub held_after : List (Call M) → Held M
+  abbrev pub held_after : List (Call M) → HostState M
   held_after calls = held_in (phase_after Adding calls) (given_by calls) (lines_of calls)
 
   -- The turns of a call that runs applications, after these calls: by the steps that each application takes by itself, and when.

@@ -5,9 +5,9 @@ use Rattle.tk_app.specs.Inspection.{seen_in}
 use Rattle.tk_app.specs.Seen.{Meaning}
 use Rattle.tk_host.specs.declared.phase.Phase.{Phase}
 use Rattle.tk_host.specs.declared.phase.Phase.TheVariants.{Adding, Reached, Finished, Lost}
-use Rattle.tk_host.specs.Held.{Call, Held, held_after}
+use Rattle.tk_host.specs.Held.{Call, HostState, held_after}
 
--- nothing is told once memory was refused
+-- nothing is told once memory was refused while applications ran
 abbrev pub told_in : {T : Type 0} → Phase → Option T → Option T
 told_in Adding seen = seen
 told_in (Reached moment) seen = seen
@@ -16,7 +16,7 @@ told_in Lost seen = None
 
 module _ {M T : Type 0} where
   -- what is looked at, of the application in a slot
-  abbrev pub seen : (Application M → Option T) → ℕ → Held M → Option T
+  abbrev pub seen : (Application M → Option T) → ℕ → HostState M → Option T
   seen look slot held = told_in held.phase (seen_in look slot held.parts)
 
   -- and after these calls, of the application as it is by itself

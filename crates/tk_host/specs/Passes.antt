@@ -14,6 +14,6 @@ pub data Passes {P : Type 0} (next_due : P → Option ℕ) (settled : ℕ → P 
       Passes next_due settled last part after
 
 module _ {M : Type 0} (answer : M → Meaning) where
-  -- An application passes to this, and to nothing else.
+  -- An application passes to this, and to nothing else; by whatever meets the equation of *Settle* it passes to the same (`PassedBySettle`).
   abbrev pub PassedPasses : Type 0
   PassedPasses = (last : ℕ) (application after : Application M) → Passes next_due (settled answer) last application after ↔ (passed answer last application ≡ after)

@@ -5,7 +5,7 @@ use Rattle.tk_route.specs.Limits.{most_applications}
 use Rattle.tk_route.specs.Lines.{Line, values}
 use Rattle.tk_route.specs.Screen.{are_apart}
 use Rattle.tk_route.specs.Values.{Values}
-use Rattle.tk_app.specs.Stages.{IsPast, first_due}
+use Rattle.tk_app.specs.Stages.{IsPast, first_moment_due}
 use Rattle.tk_app.specs.Application.{next_due}
 use Rattle.tk_app.specs.Moments.{settled}
 use Rattle.tk_app.specs.Part.{Part, Rests, added}
@@ -29,7 +29,7 @@ AllAdded {M} (part ∷ parts) = ((spec : Spec M) × (part ≡ added spec)) × Al
 -- of the last stage, which is not after the one that was reached.
 pub record IsReady {M : Type 0} (answer : M → Meaning) (phase : Phase) (moment : ℕ) (parts : List (Part M)) : Type 0 where
   pub adding : phase ≡ Adding → (moment ≡ 0) × AllAdded parts
-  pub reached : (last : ℕ) → phase ≡ Reached last → (moment ≤ last) × AllRest parts × IsPast moment (first_due next_due (settled answer) (applications parts))
+  pub reached : (last : ℕ) → phase ≡ Reached last → (moment ≤ last) × AllRest parts × IsPast moment (first_moment_due next_due (settled answer) (applications parts))
 
 -- a phase that a host comes to at a moment
 abbrev pub IsAt : ℕ → Phase → Type 0

@@ -1,5 +1,5 @@
 -- Meaning. When the calls of a host are refused, and with which fault.
-use Rattle.std.specs.Prelude.{Bool, IsTrue, ◌≡◌, ℕ, ◌<◌, ◌≤◌, ◌⊎◌, List, [], ◌∷◌, length, Any}
+use Rattle.std.specs.Prelude.{IsTrue, ◌≡◌, ℕ, ◌<◌, ◌≤◌, ◌⊎◌, List, [], ◌∷◌, length, Any}
 use Rattle.tk_base.specs.Limits.{last_moment}
 use Rattle.tk_base.specs.Rect.{SharePixel}
 use Rattle.tk_base.specs.declared.rect.Rect.{Rect}
@@ -15,7 +15,7 @@ use Rattle.tk_app.specs.Part.{Part}
 use Rattle.tk_host.specs.declared.phase.Phase.{Phase}
 use Rattle.tk_host.specs.declared.phase.Phase.TheVariants.{Reached, Finished, Lost}
 use Rattle.tk_host.specs.Spec.{Given, are_aliases, have_one_name, rect_of}
-use Rattle.tk_host.specs.Held.{Held, Hosted, reached}
+use Rattle.tk_host.specs.Held.{HostState, Hosted, reached}
 
 -- A call is refused with the first fault that applies. Memory is asked for only where none does.
 abbrev pub IsRefusal : (LineFault → Type 0) → List LineFault → HostFault → Type 0
@@ -49,7 +49,7 @@ PartsRefuse rects parts app found = ⊥
 abbrev pub add_faults : List LineFault
 add_faults = Broken ∷ Ended ∷ Started ∷ app_faults
 
-abbrev pub RefusesApp : {M : Type 0} → Held M → Given M → LineFault → Type 0
+abbrev pub RefusesApp : {M : Type 0} → HostState M → Given M → LineFault → Type 0
 RefusesApp held app Broken = PhaseRefuses held.phase Broken
 RefusesApp held app Ended = PhaseRefuses held.phase Ended
 RefusesApp held app Started = PhaseRefuses held.phase Started
@@ -63,7 +63,7 @@ start_faults = Broken ∷ Ended ∷ Started ∷ []
 abbrev pub moment_faults : List LineFault
 moment_faults = Broken ∷ Ended ∷ BadLine ∷ TimeBack ∷ []
 
-abbrev pub RefusesMoment : {M : Type 0} → Held M → ℕ → LineFault → Type 0
+abbrev pub RefusesMoment : {M : Type 0} → HostState M → ℕ → LineFault → Type 0
 RefusesMoment held moment BadLine = last_moment < moment
 RefusesMoment held moment TimeBack = moment < reached held.phase
 RefusesMoment held moment found = PhaseRefuses held.phase found
@@ -72,7 +72,7 @@ RefusesMoment held moment found = PhaseRefuses held.phase found
 abbrev pub line_faults : List LineFault
 line_faults = Broken ∷ Ended ∷ faults_of_lines
 
-abbrev pub RefusesLine : {M : Type 0} → Held M → ℕ → HostLine → LineFault → Type 0
+abbrev pub RefusesLine : {M : Type 0} → HostState M → ℕ → HostLine → LineFault → Type 0
 RefusesLine held moment line Broken = PhaseRefuses held.phase Broken
 RefusesLine held moment line Ended = PhaseRefuses held.phase Ended
 RefusesLine held moment line found = Refuses held.known.rects (reached held.phase) moment line found
@@ -81,13 +81,19 @@ RefusesLine held moment line found = Refuses held.known.rects (reached held.phas
 abbrev pub section_faults : List LineFault
 section_faults = Broken ∷ NoApp ∷ []
 
-abbrev pub RefusesSection : {M : Type 0} → Held M → ℕ → LineFault → Type 0
+abbrev pub RefusesSection : {M : Type 0} → HostState M → ℕ → LineFault → Type 0
 RefusesSection held slot NoApp = length held.parts ≤ slot
 RefusesSection held slot found = PhaseRefuses held.phase found
 
--- a fault of a list is the only one that is the first to apply, and none is where none applies
-abbrev pub OneRefusal : Type 0
-OneRefusal =
-    (Applies : LineFault → Bool) (faults : List LineFault) (one other : LineFault)
-    → IsFirst (λ fault. IsTrue (Applies fault)) faults one
-    → (IsFirst (λ fault. IsTrue (Applies fault)) faults other → one ≡ other) × ¬ NoneApplies (λ fault. IsTrue (Applies fault)) faults
+-- of a list of faults one alone is the first that applies, and where one is, not none does
+abbrev pub HasOneFirst : (LineFault → Type 0) → List LineFault → Type 0
+HasOneFirst Applies faults =
+    (one other : LineFault) → IsFirst Applies faults one → (IsFirst Applies faults other → one ≡ other) × ¬ NoneApplies Applies faults
+
+-- so it is of each call
+pub record OneRefusal (M : Type 0) : Type 0 where
+  pub add : (held : HostState M) (app : Given M) → HasOneFirst (RefusesApp held app) add_faults
+  pub start : (phase : Phase) → HasOneFirst (PhaseRefuses phase) start_faults
+  pub moment : (held : HostState M) (moment : ℕ) → HasOneFirst (RefusesMoment held moment) moment_faults
+  pub line : (held : HostState M) (moment : ℕ) (line : HostLine) → HasOneFirst (RefusesLine held moment line) line_faults
+  pub section : (held : HostState M) (slot : ℕ) → HasOneFirst (RefusesSection held slot) section_faults

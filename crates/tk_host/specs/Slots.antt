@@ -2,7 +2,7 @@
 use Rattle.std.specs.Prelude.{◌≡◌, ◌+◌, ◌≤◌, ◌-◌, ◌++◌, ◌==◌, ℕ, Bool, true, false, List, [], ◌∷◌, Option, Some, None, IfSome, slice_get, slice_set, min, if◌then◌else◌}
 use Rattle.tk_base.specs.declared.local_event.LocalEvent.{LocalEvent}
 use Rattle.tk_route.specs.declared.delivery.Delivery.{Delivery}
-use Rattle.tk_app.specs.Rounds.{entry}
+use Rattle.tk_app.specs.Rounds.{one_turn}
 use Rattle.tk_app.specs.Application.{next_due}
 use Rattle.tk_app.specs.Moments.{delivered}
 use Rattle.tk_app.specs.Part.{Part, Rests, needs, settling_begun, stage_done}
@@ -34,7 +34,7 @@ pub record TakesTurn {M : Type 0} (answer : M → Meaning) (slice slot : ℕ) (a
   pub changed : new.parts ≡ slice_set old.parts slot after
   pub same : stage_done answer old.moment after ≡ stage_done answer old.moment before
   pub left : needs answer old.moment after ≡ needs answer old.moment before - slice
-  pub told : new.turns ≡ old.turns ++ entry slot (min slice (needs answer old.moment before))
+  pub told : new.turns ≡ old.turns ++ one_turn slot (min slice (needs answer old.moment before))
   pub last : again ≡ false → after ≡ stage_done answer old.moment before
   pub more : again ≡ true → slice ≤ needs answer old.moment before
   pub moment : new.moment ≡ old.moment

@@ -14,7 +14,7 @@ use crate::stages::{advance, stage};
 use std::alloc::{AllocError, Global};
 use std::marker::Model;
 use tcl_text::Text;
-use tk_app::{Alias, AliasService, Aliases, Budget, CommandPlace, Shared, Size, Turn};
+use tk_app::{Alias, AliasService, Aliases, Budget, CommandPlace, ErrorNote, Shared, Size, Turn};
 use tk_base::{MAX_MOMENT, Rect};
 use tk_route::{HostFault, HostLine, LineFault, MAX_APPLICATIONS, Router, test_line};
 
@@ -261,6 +261,18 @@ impl<M: AliasService> Host<M> {
     /// the slot has no application. It takes no memory.
     pub fn stopped_at(&self, slot: usize) -> Option<&[CommandPlace]> {
         self.shared.stopped_at(slot)
+    }
+
+    /// The errors that the interpreter of the application in a slot noted, each with the commands in which it came about; `None` where the slot has no application.
+    /// They are notes for people, as `stopped_at` is: nothing that runs hangs on them. It takes no memory.
+    pub fn error_notes(&self, slot: usize) -> Option<&[ErrorNote]> {
+        self.shared.error_notes(slot)
+    }
+
+    /// The moment, in milliseconds, at which the application in a slot ran out of steps last; `None` where it never did, and where the slot has none. It is a
+    /// note for people, as `stopped_at` is: nothing that runs hangs on it. It takes no memory.
+    pub fn stopped_moment(&self, slot: usize) -> Option<u64> {
+        self.shared.stopped_moment(slot)
     }
 
     /// Goes on to a moment, and to a phase there.

@@ -1,6 +1,6 @@
 ghost use Rattle.tk_host.specs.Bounds.{BoundedStages};
-ghost use Rattle.tk_host.specs.BySettle.{AloneBySettle};
-ghost use Rattle.tk_host.specs.Dues.{PassesByDues, TurnsByDues};
+ghost use Rattle.tk_host.specs.BySettle.{AloneBySettle, PassedBySettle};
+ghost use Rattle.tk_host.specs.Dues.{PassedByDues, TurnsByDues};
 ghost use Rattle.tk_host.specs.FirstFormat.{AloneWithoutRefills};
 ghost use Rattle.tk_host.specs.Passes.{PassedPasses};
 ghost use Rattle.tk_host.specs.Refusals.{OneRefusal};
@@ -15,9 +15,9 @@ pub fn each_by_itself<M: AliasMeaning>()
     ensures { EachByItself M.answer }
 {}
 
-/// A call is refused with one fault alone, the first that applies, and a call that may be made has none.
-pub fn one_refusal()
-    ensures { OneRefusal }
+/// A call is refused with one fault alone, the first that applies; where one is, not none applies.
+pub fn one_refusal<M: AliasMeaning>()
+    ensures { OneRefusal M }
 {}
 
 /// In a stage at most the steps are taken that the applications had left at its start, and those that its events grant.
@@ -27,8 +27,8 @@ pub fn bounded_stages<M: AliasMeaning>()
 
 /// What is due of an application's own up to a moment is done from due moment to due moment, the earliest first: in the moments between
 /// nothing is to be done.
-pub fn passes_by_dues<M: AliasMeaning>()
-    ensures { PassesByDues M.answer }
+pub fn passed_by_dues<M: AliasMeaning>()
+    ensures { PassedByDues M.answer }
 {}
 
 /// The same as a relation: where nothing of an application is due by a moment, it has reached it; else what is due next is done, and it goes on from there.
@@ -42,9 +42,11 @@ pub fn turns_by_dues<M: AliasMeaning>()
 {}
 
 /// An application by itself comes to the same by anything that meets the equation of *Settle* (the first item that exists of a queued event, a due
-/// timer, a layout that changes something and a round of idle scripts, and *Settle* again): no other part of it rests on the job that does it.
+/// timer, a layout that changes something and a round of idle scripts, and *Settle* again): no other part of it rests on the job that does it. So does
+/// any application from moment to moment.
 pub fn alone_by_settle<M: AliasMeaning>()
-    ensures { AloneBySettle M.answer }
+    ensures alone { AloneBySettle M.answer }
+    ensures passed { PassedBySettle M.answer }
 {}
 
 /// An application by itself: the steps that it has taken and those that are left are its total and those that its events granted, which are at

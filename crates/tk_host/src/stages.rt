@@ -1,8 +1,8 @@
 //! Stages: what all applications do at one moment, in turns of slices, and the way from stage to stage.
 
 ghost use Rattle.std.specs.Prelude.{◌≡◌, ◌-◌, ◌≤◌, ◌<◌, ◌++◌, ℕ, map, length, true, false, Ok, OnOk, OnErr, IfOk, sum_by};
-ghost use Rattle.tk_app.specs.Rounds.{entry, round, turns_of};
-ghost use Rattle.tk_app.specs.Stages.{IsPast, first_due};
+ghost use Rattle.tk_app.specs.Rounds.{one_turn, round, turns_of};
+ghost use Rattle.tk_app.specs.Stages.{IsPast, first_moment_due};
 ghost use Rattle.tk_app.specs.Application.{next_due};
 ghost use Rattle.tk_app.specs.Moments.{settled};
 ghost use Rattle.tk_app.specs.Part.{needs, stage_done};
@@ -26,12 +26,12 @@ pub fn advance<M: AliasService>(
     requires slice { 0 < slice }
     requires in_time { target ≤ last_moment }
     requires rest { AllRest shared.old.parts }
-    requires past { IsPast shared.old.moment (first_due next_due (settled M.answer) (applications shared.old.parts)) }
+    requires past { IsPast shared.old.moment (first_moment_due next_due (settled M.answer) (applications shared.old.parts)) }
     requires ahead { shared.old.moment ≤ target }
     ensures brought { OnOk result (applications shared.new.parts ≡ map (passed M.answer target) (applications shared.old.parts)) }
     ensures rest { OnOk result (AllRest shared.new.parts) }
-    ensures past { OnOk result (IsPast shared.new.moment (first_due next_due (settled M.answer) (applications shared.new.parts))) }
-    ensures through { OnOk result (IsPast target (first_due next_due (settled M.answer) (applications shared.new.parts))) }
+    ensures past { OnOk result (IsPast shared.new.moment (first_moment_due next_due (settled M.answer) (applications shared.new.parts))) }
+    ensures through { OnOk result (IsPast target (first_moment_due next_due (settled M.answer) (applications shared.new.parts))) }
     ensures ahead { OnOk result (shared.new.moment ≤ target) }
     ensures turns { OnOk result (shared.new.turns ≡ shared.old.turns ++ turns_on_the_way M.answer slice target (applications shared.old.parts)) }
     ensures cut { OnErr result (IsCutShort slice (shared.old.turns ++ turns_on_the_way M.answer slice target (applications shared.old.parts)) shared.new.turns) }
@@ -50,7 +50,7 @@ pub fn advance<M: AliasService>(
 
 /// When something is due next of any of the applications.
 fn next_due<M: AliasService>(shared: &Shared<M>) -> Option<u64>
-    ensures { result ≡ first_due next_due (settled M.answer) (applications shared.now.parts) }
+    ensures { result ≡ first_moment_due next_due (settled M.answer) (applications shared.now.parts) }
 {
     let mut first = None;
     for slot in 0..shared.len() {
@@ -153,7 +153,7 @@ fn take_turn<M: AliasService>(
     requires slot { slot < length shared.old.parts }
     requires slice { 0 < slice }
     ensures taken { IfOk result (λ again. TakesTurn M.answer slice slot again shared.old shared.new) }
-    ensures cut { OnErr result ((next : ℕ) → IsCutShort slice (shared.old.turns ++ entry slot next) shared.new.turns) }
+    ensures cut { OnErr result ((next : ℕ) → IsCutShort slice (shared.old.turns ++ one_turn slot next) shared.new.turns) }
     ensures counts { CountsAll shared.old shared.new }
 {
     if !shared.is_under_way(slot) {

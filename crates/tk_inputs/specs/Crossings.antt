@@ -24,20 +24,20 @@ crossed kind between at windows =
     map (crossing kind between) (take others windows) ++ map (crossing kind at) (drop others windows)
 
 -- going down, the outermost window is told first
-abbrev pub entered : CrossingDetail → CrossingDetail → List ℕ → List PointerEvent
-entered between at windows = crossed Enter between at windows
+abbrev pub enter_events : CrossingDetail → CrossingDetail → List ℕ → List PointerEvent
+enter_events between at windows = crossed Enter between at windows
 
 -- going up, the innermost window is told first
-abbrev pub left : CrossingDetail → CrossingDetail → List ℕ → List PointerEvent
-left between at windows = reverse (crossed Leave between at windows)
+abbrev pub leave_events : CrossingDetail → CrossingDetail → List ℕ → List PointerEvent
+leave_events between at windows = reverse (crossed Leave between at windows)
 
 -- From the end of one way to the end of another that begin at the same window, or outside. Where one of them is empty the pointer comes from an ancestor,
 -- or goes to one; that outer window is told nothing.
 abbrev pub crossings_between : List ℕ → List ℕ → List PointerEvent
 crossings_between [] [] = []
-crossings_between [] (window ∷ down) = entered Virtual Ancestor (window ∷ down)
-crossings_between (window ∷ up) [] = left Virtual Ancestor (window ∷ up)
-crossings_between (outer ∷ up) (window ∷ down) = left NonlinearVirtual Nonlinear (outer ∷ up) ++ entered NonlinearVirtual Nonlinear (window ∷ down)
+crossings_between [] (window ∷ down) = enter_events Virtual Ancestor (window ∷ down)
+crossings_between (window ∷ up) [] = leave_events Virtual Ancestor (window ∷ up)
+crossings_between (outer ∷ up) (window ∷ down) = leave_events NonlinearVirtual Nonlinear (outer ∷ up) ++ enter_events NonlinearVirtual Nonlinear (window ∷ down)
 
 -- two ways that go apart at once, or of which one is empty
 abbrev pub GoApart : List ℕ → List ℕ → Type 0

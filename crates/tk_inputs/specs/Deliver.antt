@@ -18,7 +18,7 @@ use Rattle.tk_sequences.specs.declared.event_type.EventType.{EventType}
 use Rattle.tk_sequences.specs.declared.event_type.EventType.TheVariants as types
 use Rattle.tk_tree.specs.declared.window.Window.{Window}
 use Rattle.tk_tree.specs.Corners.{corner}
-use Rattle.tk_tree.specs.Own.{Own, window_at}
+use Rattle.tk_tree.specs.Own.{Tree, window_at}
 use Rattle.tk_tree.specs.Ways.{way_at, way_to}
 
 -- what an application keeps of its input, and the events that wait for it, the next one first
@@ -36,21 +36,21 @@ abbrev pub of_window : (Window → Event) → Option Window → List Event
 of_window event None = []
 of_window event (Some window) = event window ∷ []
 
-abbrev pub key_events : EventType → KeyLine → ℕ → Own → List Event
+abbrev pub key_events : EventType → KeyLine → ℕ → Tree → List Event
 key_events type line number own = of_window (λ window. key_event type line.key window line.moment line.state) (window_at number own)
 
-abbrev pub plain_events : EventType → ℕ → ℕ → Own → List Event
+abbrev pub plain_events : EventType → ℕ → ℕ → Tree → List Event
 plain_events type moment number own = of_window (λ window. plain_event type window moment) (window_at number own)
 
 -- a key is pressed or released: the focus window gets it
-abbrev pub keyed : EventType → KeyLine → Own → Arrivals → Arrivals
+abbrev pub keyed : EventType → KeyLine → Tree → Arrivals → Arrivals
 keyed type line own arrivals = record arrivals { queue = arrivals.queue ++ key_events type line arrivals.input.focus own }
 
 -- the host's focus comes, or goes: the focus window is told
 abbrev pub focus_type : Bool → EventType
 focus_type has_focus = if has_focus then types.FocusIn else types.FocusOut
 
-abbrev pub focus_taken : Bool → ℕ → Own → Arrivals → Arrivals
+abbrev pub focus_taken : Bool → ℕ → Tree → Arrivals → Arrivals
 focus_taken has_focus moment own arrivals = record {
   input = record arrivals.input { has_focus = has_focus };
   queue = arrivals.queue ++ plain_events (focus_type has_focus) moment arrivals.input.focus own;
@@ -59,39 +59,39 @@ focus_taken has_focus moment own arrivals = record {
 -- ---- the pointer
 
 -- the way to a window, which is empty where it is gone
-abbrev pub way_of : Option ℕ → Own → List ℕ
+abbrev pub way_of : Option ℕ → Tree → List ℕ
 way_of None own = []
 way_of (Some number) own = way_to number own
 
 -- the way to the deepest mapped window at a point, which is empty outside of the main window
-abbrev pub way_under : ℤ → ℤ → Own → List ℕ
+abbrev pub way_under : ℤ → ℤ → Tree → List ℕ
 way_under (pos x) (pos y) own = way_at x y own
 way_under _ _ own = []
 
 -- what a window is told, as an event
-abbrev pub told_events : PointerLine → Own → PointerEvent → List Event
+abbrev pub told_events : PointerLine → Tree → PointerEvent → List Event
 told_events line own told = of_window (λ window. pointer_event line told.kind window (corner told.window own)) (window_at told.window own)
 
 -- windows are told this, and the pointer is there
-abbrev pub pointed : PointerLine → List PointerEvent → Pointer → Own → Arrivals → Arrivals
+abbrev pub pointed : PointerLine → List PointerEvent → Pointer → Tree → Arrivals → Arrivals
 pointed line told pointer own arrivals = record {
   input = record arrivals.input { pointer = pointer };
   queue = arrivals.queue ++ flat_map (told_events line own) told;
 }
 
-abbrev pub moved_by : PointerLine → Own → Arrivals → Arrivals
+abbrev pub moved_by : PointerLine → Tree → Arrivals → Arrivals
 moved_by line own arrivals =
     let way = way_of arrivals.input.pointer.window own in
     let under = way_under line.x line.y own in
     pointed line (moved_told way under arrivals.input.pointer) (moved way under arrivals.input.pointer) own arrivals
 
-abbrev pub pressed_by : ℕ → PointerLine → Own → Arrivals → Arrivals
+abbrev pub pressed_by : ℕ → PointerLine → Tree → Arrivals → Arrivals
 pressed_by button line own arrivals =
     let way = way_of arrivals.input.pointer.window own in
     let under = way_under line.x line.y own in
     pointed line (pressed_told button way under arrivals.input.pointer) (pressed button under arrivals.input.pointer) own arrivals
 
-abbrev pub released_by : ℕ → PointerLine → Own → Arrivals → Arrivals
+abbrev pub released_by : ℕ → PointerLine → Tree → Arrivals → Arrivals
 released_by button line own arrivals =
     let way = way_of arrivals.input.pointer.window own in
     let under = way_under line.x line.y own in
@@ -105,7 +105,7 @@ pointer_line event x y = record { moment = event.moment; state = event.state; x 
 abbrev pub key_line : LocalEvent → ℕ → KeyLine
 key_line event key = record { moment = event.moment; state = event.state; key = key }
 
-abbrev pub arrived_as : LocalKind → LocalEvent → Own → Arrivals → Arrivals
+abbrev pub arrived_as : LocalKind → LocalEvent → Tree → Arrivals → Arrivals
 arrived_as (kinds.Position x y) event own arrivals = moved_by (pointer_line event x y) own arrivals
 arrived_as (kinds.Press button x y) event own arrivals = pressed_by button (pointer_line event x y) own arrivals
 arrived_as (kinds.Release button x y) event own arrivals = released_by button (pointer_line event x y) own arrivals
@@ -116,5 +116,5 @@ arrived_as kinds.FocusOut event own arrivals = focus_taken false event.moment ow
 arrived_as (kinds.Size width height) event own arrivals = arrivals
 
 -- what a line gives, with the windows as they are
-unfoldable pub arrived : LocalEvent → Own → Arrivals → Arrivals
+unfoldable pub arrived : LocalEvent → Tree → Arrivals → Arrivals
 arrived event own arrivals = arrived_as event.kind event own arrivals

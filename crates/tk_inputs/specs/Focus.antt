@@ -9,7 +9,7 @@ use Rattle.tk_inputs.specs.declared.inputs.Input.{Input}
 use Rattle.tk_inputs.specs.Deliver.{Arrivals, plain_events}
 use Rattle.tk_sequences.specs.declared.event_type.EventType.TheVariants as types
 use Rattle.tk_tree.specs.declared.window.Window.{Window}
-use Rattle.tk_tree.specs.Own.{Own, at_path, window_at}
+use Rattle.tk_tree.specs.Own.{Tree, at_path, window_at}
 use Rattle.tk_tree.specs.Path.{bad_path}
 
 -- what is left of the application, and what the command answers
@@ -23,11 +23,11 @@ told arrivals answer = record { arrivals = arrivals; answer = answer }
 -- ---- a window gets the keys
 
 -- The two windows are told where the application has the host's focus, and they are two.
-abbrev pub focus_events : Bool → ℕ → ℕ → ℕ → Own → List Event
+abbrev pub focus_events : Bool → ℕ → ℕ → ℕ → Tree → List Event
 focus_events tells last number moment own =
     if tells then plain_events types.FocusOut moment last own ++ plain_events types.FocusIn moment number own else []
 
-abbrev pub focused : ℕ → ℕ → Own → Arrivals → Arrivals
+abbrev pub focused : ℕ → ℕ → Tree → Arrivals → Arrivals
 focused number moment own arrivals = record {
   input = record arrivals.input { focus = number };
   queue = arrivals.queue ++ focus_events (arrivals.input.has_focus && not (arrivals.input.focus == number)) arrivals.input.focus number moment own;
@@ -36,34 +36,34 @@ focused number moment own arrivals = record {
 -- ---- the command
 
 -- the path of the focus window
-abbrev pub focus_path : Own → Input → List ℕ
+abbrev pub focus_path : Tree → Input → List ℕ
 focus_path own input = option_map_or (λ window. window.path) (window_at input.focus own) []
 
 -- focus: only where the application has the host's focus
-abbrev pub shown : Own → Input → Answer
-shown own input = Ok (if input.has_focus then focus_path own input else [])
+abbrev pub focus_shown : Tree → Input → Answer
+focus_shown own input = Ok (if input.has_focus then focus_path own input else [])
 
 -- focus -lastfor path
-abbrev pub last_of : List ℕ → Own → Input → Option Window → Answer
+abbrev pub last_of : List ℕ → Tree → Input → Option Window → Answer
 last_of path own input None = bad_path path
 last_of path own input (Some window) = Ok (focus_path own input)
 
-abbrev pub last_for : List (List ℕ) → Own → Input → Answer
+abbrev pub last_for : List (List ℕ) → Tree → Input → Answer
 last_for (path ∷ []) own input = last_of path own input (at_path path own)
 last_for _ own input = wrong_args (codes "focus -lastfor path")
 
 -- focus path
-abbrev pub focus_window : List ℕ → ℕ → Own → Arrivals → Option Window → Told
+abbrev pub focus_window : List ℕ → ℕ → Tree → Arrivals → Option Window → Told
 focus_window path moment own arrivals None = told arrivals (bad_path path)
 focus_window path moment own arrivals (Some window) = told (focused window.number moment own arrivals) (Ok [])
 
 abbrev pub is_empty : List ℕ → Bool
 is_empty text = bytes_eq text []
 
-abbrev pub focus_on : List ℕ → ℕ → Own → Arrivals → Told
+abbrev pub focus_on : List ℕ → ℕ → Tree → Arrivals → Told
 focus_on path moment own arrivals = if is_empty path then told arrivals (Ok []) else focus_window path moment own arrivals (at_path path own)
 
-abbrev pub focus_one : List ℕ → List (List ℕ) → ℕ → Own → Arrivals → Told
+abbrev pub focus_one : List ℕ → List (List ℕ) → ℕ → Tree → Arrivals → Told
 focus_one path [] moment own arrivals = focus_on path moment own arrivals
 focus_one path (other ∷ words) moment own arrivals = told arrivals (wrong_args (codes "focus ?path?"))
 
@@ -73,8 +73,8 @@ is_option [] = false
 is_option (byte ∷ bytes) = byte == 45
 
 -- the words behind the command's name, at a moment
-unfoldable pub focus_words : List (List ℕ) → ℕ → Own → Arrivals → Told
-focus_words [] moment own arrivals = told arrivals (shown own arrivals.input)
+unfoldable pub focus_words : List (List ℕ) → ℕ → Tree → Arrivals → Told
+focus_words [] moment own arrivals = told arrivals (focus_shown own arrivals.input)
 focus_words (first ∷ words) moment own arrivals =
     if bytes_eq first (codes "-lastfor") then told arrivals (last_for words own arrivals.input)
     else (if is_option first then told arrivals (bad_option first)

@@ -3,7 +3,7 @@ use Rattle.std.specs.Prelude.{◌≡◌, ◌≢◌, ℕ, false, ◌==◌, nat_eq
 use Rattle.std.specs.Map.{lookup}
 use Rattle.std.specs.Option.{option_map_or}
 use Rattle.tk_inputs.specs.declared.inputs.Input.{Input}
-use Rattle.tk_inputs.specs.Pointer.{outside}
+use Rattle.tk_inputs.specs.Pointer.{outside_window}
 
 -- all applications'
 abbrev pub Held : Type 0
@@ -11,7 +11,7 @@ Held = List (ℕ × Input)
 
 -- At first the main window, number 0, has the keys, and neither the host's focus nor the pointer is in the application.
 abbrev pub fresh : Input
-fresh = record { focus = 0; has_focus = false; pointer = outside; over = None; pressed = None; relief = None }
+fresh = record { focus = 0; has_focus = false; pointer = outside_window; over = None; pressed = None; relief = None }
 
 -- an application's
 abbrev pub own_of : ℕ → Held → Input

@@ -12,8 +12,8 @@ use Rattle.tk_inputs.specs.declared.pointer.Pointer.{Pointer}
 use Rattle.tk_inputs.specs.Crossings.{crossing, crossings_of}
 
 -- at first the pointer is in no window, and no button is held
-abbrev pub outside : Pointer
-outside = record {
+abbrev pub outside_window : Pointer
+outside_window = record {
   window = None;
   is_left = false;
   buttons = record { first = false; second = false; third = false; fourth = false; fifth = false };

@@ -71,7 +71,7 @@ pub fn focus_command(
     ensures queue { queue_of.LeavesOthers slot queue.old queue.new }
 {
     let Some((first, rest)) = words.split_first() else {
-        return answered(shown(alloc, windows, inputs, slot));
+        return answered(focus_shown(alloc, windows, inputs, slot));
     };
     if first.as_str() == "-lastfor" {
         return answered(last_for(alloc, windows, inputs, slot, rest));
@@ -93,8 +93,13 @@ fn is_option(word: &str) -> bool
 }
 
 /// The path of the focus window, where the application has the host's focus.
-fn shown(alloc: Global, windows: &Windows, inputs: &Inputs, slot: usize) -> Result<Text, Refusal>
-    ensures { Gives result (spec.shown (tree_of.own_of slot windows.now) (inputs_of.own_of slot inputs.now)) }
+fn focus_shown(
+    alloc: Global,
+    windows: &Windows,
+    inputs: &Inputs,
+    slot: usize,
+) -> Result<Text, Refusal>
+    ensures { Gives result (spec.focus_shown (tree_of.own_of slot windows.now) (inputs_of.own_of slot inputs.now)) }
 {
     if inputs.has_focus(slot) {
         focus_path(alloc, windows, inputs, slot)

@@ -20,11 +20,11 @@ pub struct Pointer {
 
 impl Pointer {
     ghost use Rattle.std.specs.Prelude.{◌≡◌, IfOk, OnOk, OnErr};
-    ghost use Rattle.tk_inputs.specs.Pointer.{moved, moved_told, outside, pressed, pressed_told, put_into, released, released_told};
+    ghost use Rattle.tk_inputs.specs.Pointer.{moved, moved_told, outside_window, pressed, pressed_told, put_into, released, released_told};
 
     /// A pointer in no window, with no button held.
     pub fn new() -> Pointer
-        ensures { result ≡ outside }
+        ensures { result ≡ outside_window }
     {
         Pointer {
             window: None,

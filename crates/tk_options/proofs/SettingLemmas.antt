@@ -3,17 +3,17 @@ use Rattle.std.proofs.Common.{◌≡◌, ℕ, List, [], ◌∷◌, ◌++◌, Ok,
 use Rattle.tk_options.specs.declared.fault.OptionFault.{OptionFault}
 use Rattle.tk_options.specs.declared.option.OptionEntry.{OptionEntry}
 use Rattle.tk_options.specs.declared.settings.Setting.{Setting}
-use Rattle.tk_options.specs.Options.{Outcome, first_set, with_value, with_settings, settings, tested}
+use Rattle.tk_options.specs.Options.{OptionResult, first_set, with_value, with_settings, settings, tested}
 
 -- settings behind others
-abbrev pub settings_behind : List Setting → Outcome (List Setting) → Outcome (List Setting)
+abbrev pub settings_behind : List Setting → OptionResult (List Setting) → OptionResult (List Setting)
 settings_behind front (Ok more) = Ok (front ++ more)
 settings_behind front (Err fault) = Err fault
 
 pub settings_behind-end : (front : List Setting) → settings_behind front (Ok []) ≡ Ok front
 settings_behind-end front = ap Ok (append-nil front)
 
-pub settings_behind-err : (front : List Setting) (all more : Outcome (List Setting)) (fault : OptionFault) → settings_behind front more ≡ all → more ≡ Err fault → all ≡ Err fault
+pub settings_behind-err : (front : List Setting) (all more : OptionResult (List Setting)) (fault : OptionFault) → settings_behind front more ≡ all → more ≡ Err fault → all ≡ Err fault
 settings_behind-err front all more fault is at = sym is ∙ ap (settings_behind front) at
 
 -- one more is tested
@@ -22,7 +22,7 @@ pub settings_behind-more : (front : List Setting) (first : Setting) (word value 
     → settings_behind (front ++ first ∷ []) (settings words table) ≡ settings_behind front (settings (word ∷ value ∷ words) table)
 settings_behind-more front first word value words table is = rw is (by (settings words table))
   where
-    by : (rest : Outcome (List Setting)) → settings_behind (front ++ first ∷ []) rest ≡ settings_behind front (Rattle.tk_options.specs.Options.◌>>=◌ rest (λ others. Ok (first ∷ others)))
+    by : (rest : OptionResult (List Setting)) → settings_behind (front ++ first ∷ []) rest ≡ settings_behind front (Rattle.tk_options.specs.Options.◌>>=◌ rest (λ others. Ok (first ∷ others)))
     by (Ok others) = ap Ok (append_assoc front (first ∷ []) others)
     by (Err fault) = refl
 

@@ -13,12 +13,12 @@ use Rattle.tk_options.specs.declared.settings.Setting.{Setting}
 use Rattle.tcl_text.specs.Limits.{most_bytes}
 
 -- a call's outcome, or why it was refused
-abbrev pub Outcome : Type 0 → Type 0
-Outcome T = Result T OptionFault
+abbrev pub OptionResult : Type 0 → Type 0
+OptionResult T = Result T OptionFault
 
 -- the rest of a call, unless a step before it was refused
 infixl 10 ◌>>=◌
-abbrev pub ◌>>=◌ : {T U : Type 0} → Outcome T → (T → Outcome U) → Outcome U
+abbrev pub ◌>>=◌ : {T U : Type 0} → OptionResult T → (T → OptionResult U) → OptionResult U
 Ok value >>= rest = rest value
 Err fault >>= rest = Err fault
 
@@ -33,34 +33,34 @@ abbrev pub is_begun : List ℕ → OptionEntry → Bool
 is_begun word entry = bytes_eq word (take (length word) (name_of entry.option))
 
 -- the only one of some options
-abbrev pub only : List ℕ → List OptionEntry → Outcome OptionEntry
+abbrev pub only : List ℕ → List OptionEntry → OptionResult OptionEntry
 only word [] = Err (UnknownOption word)
 only word (entry ∷ []) = Ok entry
 only word (entry ∷ other ∷ entries) = Err (Ambiguous word)
 
 -- what was found, or else the only option whose name begins with the word
-abbrev pub or_only : List ℕ → List OptionEntry → Option OptionEntry → Outcome OptionEntry
+abbrev pub or_only : List ℕ → List OptionEntry → Option OptionEntry → OptionResult OptionEntry
 or_only word table (Some entry) = Ok entry
 or_only word table None = only word (filter (is_begun word) table)
 
 -- the option of this name, or else of the name that it is short for, or else the only one whose name begins with the word
-unfoldable pub meant : List ℕ → List OptionEntry → Outcome OptionEntry
+unfoldable pub meant : List ℕ → List OptionEntry → OptionResult OptionEntry
 meant word table = or_only word table (find (is_named (long_name word)) table)
 
 -- ---- setting options
 
-abbrev pub or_bad : List ℕ → List ℕ → OptionEntry → Option (List ℕ) → Outcome Setting
+abbrev pub or_bad : List ℕ → List ℕ → OptionEntry → Option (List ℕ) → OptionResult Setting
 or_bad word value entry (Some kept) = Ok (record { option = entry.option; value = kept })
 or_bad word value entry None = Err (BadValue value word)
 
 -- a word and a value, tested
-unfoldable pub tested : List ℕ → List ℕ → List OptionEntry → Outcome Setting
+unfoldable pub tested : List ℕ → List ℕ → List OptionEntry → OptionResult Setting
 tested word value table = do
   entry ← meant word table
   or_bad word value entry (value_in entry.form value)
 
 -- words in pairs, tested from left to right; the last may lack its value
-abbrev pub settings : List (List ℕ) → List OptionEntry → Outcome (List Setting)
+abbrev pub settings : List (List ℕ) → List OptionEntry → OptionResult (List Setting)
 settings [] table = Ok []
 settings (word ∷ []) table = do
   _ ← meant word table
@@ -91,7 +91,7 @@ abbrev pub last_setting : OptionName → List Setting → Option (List ℕ)
 last_setting option all = fold (λ last setting. option_or (value_for option setting) last) None all
 
 -- all tested, and then all set
-unfoldable pub configured : List (List ℕ) → List OptionEntry → Outcome (List OptionEntry)
+unfoldable pub configured : List (List ℕ) → List OptionEntry → OptionResult (List OptionEntry)
 configured words table = do
   all ← settings words table
   Ok (with_settings all table)
@@ -99,7 +99,7 @@ configured words table = do
 -- ---- telling options
 
 -- the value of the option that a word means
-abbrev pub value_meant : List ℕ → List OptionEntry → Outcome (List ℕ)
+abbrev pub value_meant : List ℕ → List OptionEntry → OptionResult (List ℕ)
 value_meant word table = do
   entry ← meant word table
   Ok entry.value

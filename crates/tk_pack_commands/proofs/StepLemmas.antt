@@ -1,8 +1,8 @@
 -- Steps over words and windows in their order.
 use Rattle.std.proofs.Common.{◌≡◌, ℕ, List, [], ◌∷◌, ◌++◌, Option, Some, None, Result, Ok, Err, refl, sym, ap, ◌∙◌, append_assoc, append-nil}
 use Rattle.std.specs.Prelude.{Vec, length}
-use Rattle.tk_tree.specs.Own.{Own as Tree}
-use Rattle.tk_packer.specs.Packs.{Own as Packs}
+use Rattle.tk_tree.specs.Own.{Tree}
+use Rattle.tk_packer.specs.Packs.{Packing}
 use Rattle.tk_pack_commands.specs.declared.settings.PackSetting.{PackSetting}
 use Rattle.tk_pack_commands.specs.declared.targets.Target.{Target}
 use Rattle.tcl_text.specs.Answers.{Gives, ◌>>=◌}
@@ -43,13 +43,13 @@ pub targets_behind-refused : (front : List Target) (path : List ℕ) (paths : Li
 targets_behind-refused front path paths tree text is = rw is refl
 
 -- one more is set
-pub settings_behind-more : (front : List PackSetting) (first : PackSetting) (name value : List ℕ) (words : List (List ℕ)) (targets : List Target) (tree : Tree) (packs : Packs)
+pub settings_behind-more : (front : List PackSetting) (first : PackSetting) (name value : List ℕ) (words : List (List ℕ)) (targets : List Target) (tree : Tree) (packs : Packing)
     → setting_in name value targets tree packs ≡ Ok first
     → items_behind (front ++ first ∷ []) (settings_in words targets tree packs) ≡ items_behind front (settings_in (name ∷ value ∷ words) targets tree packs)
 settings_behind-more front first name value words targets tree packs is = rw is (one_behind front first (settings_in words targets tree packs))
 
 -- one is refused
-pub settings_behind-refused : (front : List PackSetting) (name value : List ℕ) (words : List (List ℕ)) (targets : List Target) (tree : Tree) (packs : Packs) (text : List ℕ)
+pub settings_behind-refused : (front : List PackSetting) (name value : List ℕ) (words : List (List ℕ)) (targets : List Target) (tree : Tree) (packs : Packing) (text : List ℕ)
     → setting_in name value targets tree packs ≡ Err text → items_behind front (settings_in (name ∷ value ∷ words) targets tree packs) ≡ Err text
 settings_behind-refused front name value words targets tree packs text is = rw is refl
 

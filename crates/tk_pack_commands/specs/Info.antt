@@ -8,7 +8,7 @@ use Rattle.tcl_text.specs.Readings.{list_form}
 use Rattle.tk_packer.specs.declared.packed.Packed.{Packed}
 use Rattle.tk_packer.specs.declared.request.Pads.{Pads}
 use Rattle.tk_packer.specs.declared.request.Request.{Request}
-use Rattle.tk_tree.specs.Own.{Own as Tree, window_at}
+use Rattle.tk_tree.specs.Own.{Tree, window_at}
 use Rattle.tk_pack_commands.specs.Faults.{not_packed}
 use Rattle.tk_pack_commands.specs.Values.{anchor_word, fill_word, side_word}
 

@@ -6,9 +6,9 @@ use Rattle.std.specs.Str.{bytes_eq}
 use Rattle.tcl_text.specs.Answers.{◌>>=◌}
 use Rattle.tcl_text.specs.Readings.{boolean_of}
 use Rattle.tk_options.specs.Forms.{amount_in}
-use Rattle.tk_packer.specs.Packs.{Own as Packs, request_in}
+use Rattle.tk_packer.specs.Packs.{Packing, request_in}
 use Rattle.tk_packer.specs.declared.request.Request.{Request}
-use Rattle.tk_tree.specs.Own.{Own as Tree}
+use Rattle.tk_tree.specs.Own.{Tree}
 use Rattle.tk_pack_commands.specs.declared.settings.Beside.{Beside}
 use Rattle.tk_pack_commands.specs.declared.settings.PackOption.{PackOption}
 use Rattle.tk_pack_commands.specs.declared.settings.PackOption.TheVariants.{Side, Anchor, Fill, Expand, Padx, Pady, Ipadx, Ipady, After, Before}
@@ -68,25 +68,25 @@ is_sibling targets None = false
 is_sibling targets (Some parent) = list_all (λ target. target.master == parent) targets
 
 -- the window beside which these are to be packed: one that is there (24), is packed, and has their parent
-abbrev pub if_sibling : List ℕ → List Target → Packs → Found → Result ℕ (List ℕ)
+abbrev pub if_sibling : List ℕ → List Target → Packing → Found → Result ℕ (List ℕ)
 if_sibling path targets packs found =
     if is_some (request_in found.number packs.packs)
     then (if is_sibling targets found.parent then Ok found.number else not_sibling path)
     else not_packed path
 
-unfoldable pub sibling_in : List ℕ → List Target → Tree → Packs → Result ℕ (List ℕ)
+unfoldable pub sibling_in : List ℕ → List Target → Tree → Packing → Result ℕ (List ℕ)
 sibling_in path targets tree packs = do
   found ← window_in path tree
   if_sibling path targets packs found
 
-abbrev pub beside_in : Bool → List ℕ → List Target → Tree → Packs → Result PackSetting (List ℕ)
+abbrev pub beside_in : Bool → List ℕ → List Target → Tree → Packing → Result PackSetting (List ℕ)
 beside_in after path targets tree packs = do
   number ← sibling_in path targets tree packs
   Ok (set.Beside (record { number = number; after = after }))
 
 -- ---- options and their values, from left to right
 
-abbrev pub setting_for : PackOption → List ℕ → List ℕ → List Target → Tree → Packs → Result PackSetting (List ℕ)
+abbrev pub setting_for : PackOption → List ℕ → List ℕ → List Target → Tree → Packing → Result PackSetting (List ℕ)
 setting_for After name value targets tree packs = beside_in true value targets tree packs
 setting_for Before name value targets tree packs = beside_in false value targets tree packs
 setting_for option name value targets tree packs = or_bad name value (setting_of option value)
@@ -95,7 +95,7 @@ abbrev pub known : List ℕ → Option PackOption → Result PackOption (List �
 known name (Some option) = Ok option
 known name None = unknown_option name
 
-unfoldable pub setting_in : List ℕ → List ℕ → List Target → Tree → Packs → Result PackSetting (List ℕ)
+unfoldable pub setting_in : List ℕ → List ℕ → List Target → Tree → Packing → Result PackSetting (List ℕ)
 setting_in name value targets tree packs = do
   option ← known name (option_named name)
   setting_for option name value targets tree packs
@@ -107,7 +107,7 @@ without_value name = do
   no_value name
 
 -- one setting for each option and its value, tested in their order
-abbrev pub settings_in : List (List ℕ) → List Target → Tree → Packs → Result (List PackSetting) (List ℕ)
+abbrev pub settings_in : List (List ℕ) → List Target → Tree → Packing → Result (List PackSetting) (List ℕ)
 settings_in [] targets tree packs = Ok []
 settings_in (name ∷ []) targets tree packs = without_value name
 settings_in (name ∷ value ∷ words) targets tree packs = do

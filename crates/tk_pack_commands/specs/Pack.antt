@@ -3,8 +3,8 @@ use Rattle.std.specs.Prelude.{ℕ, Bool, if◌then◌else◌, List, [], ◌∷�
 use Rattle.std.specs.Str.{bytes_eq}
 use Rattle.tcl_text.specs.Answers.{Answer, ◌>>=◌, answers, truth, wrong_args, bad_option}
 use Rattle.tcl_text.specs.Readings.{boolean_of, list_form}
-use Rattle.tk_packer.specs.Packs.{Own as Packs, slaves_of, request_in, propagates_in, with_propagation, without_packed}
-use Rattle.tk_tree.specs.Own.{Own as Tree, at_path}
+use Rattle.tk_packer.specs.Packs.{Packing, slaves_of, request_in, propagates_in, with_propagation, without_packed}
+use Rattle.tk_tree.specs.Own.{Tree, at_path}
 use Rattle.tk_pack_commands.specs.declared.pack.PackQuestion.{PackQuestion}
 use Rattle.tk_pack_commands.specs.declared.pack.PackQuestion.TheVariants.{Info, Slaves}
 use Rattle.tk_pack_commands.specs.declared.settings.PackSetting.{PackSetting}
@@ -18,7 +18,7 @@ use Rattle.tk_pack_commands.specs.Targets.{begins_path, found_of, path_count, wi
 
 -- what the application has packed after the command, and the command's answer
 abbrev pub Told : Type 0
-Told = Packs × Answer
+Told = Packing × Answer
 
 -- ---- pack ?configure? path ?path ..? ?option value ..?
 
@@ -28,34 +28,34 @@ pub record Planned : Type 0 where
   pub settings : List PackSetting
 
 -- all words tested, before anything is packed
-unfoldable pub plan_in : List (List ℕ) → Tree → Packs → Result Planned (List ℕ)
+unfoldable pub plan_in : List (List ℕ) → Tree → Packing → Result Planned (List ℕ)
 plan_in words tree packs = do
   targets ← targets_in (take (path_count words) words) tree
   settings ← settings_in (drop (path_count words) words) targets tree packs
   Ok (record { targets = targets; settings = settings })
 
-abbrev pub packed_by : Result Planned (List ℕ) → Packs → Told
+abbrev pub packed_by : Result Planned (List ℕ) → Packing → Told
 packed_by (Err text) packs = (packs, Err text)
 packed_by (Ok plan) packs = (packed_all plan.settings (last_sibling None plan.settings) plan.targets packs, Ok [])
 
-abbrev pub configure_words : List (List ℕ) → Tree → Packs → Told
+abbrev pub configure_words : List (List ℕ) → Tree → Packing → Told
 configure_words [] tree packs = (packs, wrong_args (codes "pack ?configure? path ?path ..? ?option value ..?"))
 configure_words (word ∷ words) tree packs = packed_by (plan_in (word ∷ words) tree packs) packs
 
 -- ---- pack forget ?path ..?: a path of no window is passed over
 
-abbrev pub forgotten : Option Found → Packs → Packs
+abbrev pub forgotten : Option Found → Packing → Packing
 forgotten None packs = packs
 forgotten (Some found) packs = without_packed found.number packs
 
-abbrev pub forgotten_at : List ℕ → Tree → Packs → Packs
+abbrev pub forgotten_at : List ℕ → Tree → Packing → Packing
 forgotten_at path tree packs = forgotten (option_map found_of (at_path path tree)) packs
 
-abbrev pub all_forgotten : List (List ℕ) → Tree → Packs → Packs
+abbrev pub all_forgotten : List (List ℕ) → Tree → Packing → Packing
 all_forgotten [] tree packs = packs
 all_forgotten (path ∷ paths) tree packs = all_forgotten paths tree (forgotten_at path tree packs)
 
-abbrev pub forget_words : List (List ℕ) → Tree → Packs → Told
+abbrev pub forget_words : List (List ℕ) → Tree → Packing → Told
 forget_words paths tree packs = (all_forgotten paths tree packs, Ok [])
 
 -- ---- pack info path, pack slaves path
@@ -65,11 +65,11 @@ usage_of Info = codes "pack info path"
 usage_of Slaves = codes "pack slaves path"
 
 -- what is told of the window with this path and number
-abbrev pub told_of : PackQuestion → List ℕ → ℕ → Tree → Packs → Answer
+abbrev pub told_of : PackQuestion → List ℕ → ℕ → Tree → Packing → Answer
 told_of Info path number tree packs = info_of path (request_in number packs.packs)
 told_of Slaves path number tree packs = answers (list_form (paths_of tree (slaves_of number packs.packs)))
 
-abbrev pub question_words : PackQuestion → List (List ℕ) → Tree → Packs → Answer
+abbrev pub question_words : PackQuestion → List (List ℕ) → Tree → Packing → Answer
 question_words question (path ∷ []) tree packs = do
   found ← window_in path tree
   told_of question path found.number tree packs
@@ -77,7 +77,7 @@ question_words question _ tree packs = wrong_args (usage_of question)
 
 -- ---- pack propagate path ?boolean?
 
-abbrev pub propagation_told : List ℕ → Tree → Packs → Answer
+abbrev pub propagation_told : List ℕ → Tree → Packing → Answer
 propagation_told path tree packs = do
   found ← window_in path tree
   truth (propagates_in found.number packs)
@@ -93,11 +93,11 @@ propagation_in path word tree = do
   propagates ← boolean_or_error word (boolean_of word)
   Ok (found.number, propagates)
 
-abbrev pub propagation_set : Result (ℕ × Bool) (List ℕ) → Packs → Told
+abbrev pub propagation_set : Result (ℕ × Bool) (List ℕ) → Packing → Told
 propagation_set (Err text) packs = (packs, Err text)
 propagation_set (Ok wanted) packs = (with_propagation wanted.0 wanted.1 packs, Ok [])
 
-abbrev pub propagate_words : List (List ℕ) → Tree → Packs → Told
+abbrev pub propagate_words : List (List ℕ) → Tree → Packing → Told
 propagate_words (path ∷ []) tree packs = (packs, propagation_told path tree packs)
 propagate_words (path ∷ word ∷ []) tree packs = propagation_set (propagation_in path word tree) packs
 propagate_words _ tree packs = (packs, wrong_args (codes "pack propagate path ?boolean?"))
@@ -105,7 +105,7 @@ propagate_words _ tree packs = (packs, wrong_args (codes "pack propagate path ?b
 -- ---- the command
 
 -- the forms whose first word names them
-unfoldable pub named_words : List ℕ → List (List ℕ) → Tree → Packs → Told
+unfoldable pub named_words : List ℕ → List (List ℕ) → Tree → Packing → Told
 named_words name words tree packs =
     if bytes_eq name (codes "configure") then configure_words words tree packs
     else if bytes_eq name (codes "forget") then forget_words words tree packs
@@ -115,7 +115,7 @@ named_words name words tree packs =
     else (packs, bad_option name)
 
 -- the words behind the command's name: a path comes first, or the name of a form
-unfoldable pub pack_words : List (List ℕ) → Tree → Packs → Told
+unfoldable pub pack_words : List (List ℕ) → Tree → Packing → Told
 pack_words [] tree packs = (packs, wrong_args (codes "pack ?configure? path ?path ..? ?option value ..?"))
 pack_words (first ∷ words) tree packs =
     if begins_path first then configure_words (first ∷ words) tree packs

@@ -1,7 +1,7 @@
 -- Meaning. Where windows come to stand among the slaves of their master.
 use Rattle.std.specs.Prelude.{ℕ, ◌+◌, true, ◌==◌, if◌then◌else◌, List, [], ◌∷◌, Option, None, Some, option_map, unwrap_or}
 use Rattle.std.specs.List.{position_or_len}
-use Rattle.tk_packer.specs.Packs.{Own as Packs, slaves_of, without, request_in, with_packed}
+use Rattle.tk_packer.specs.Packs.{Packing, slaves_of, without, request_in, with_packed}
 use Rattle.tk_packer.specs.declared.packed.Packed.{Packed}
 use Rattle.tk_packer.specs.Ask.{default_request}
 use Rattle.tk_packer.specs.declared.request.Request.{Request}
@@ -27,7 +27,7 @@ abbrev pub request_or_default : ℕ → List Packed → Request
 request_or_default number packs = unwrap_or (request_in number packs) (default_request 1 1)
 
 -- one window packed
-unfoldable pub packed_one : List PackSetting → Option Beside → Target → Packs → Packs
+unfoldable pub packed_one : List PackSetting → Option Beside → Target → Packing → Packing
 packed_one settings beside target own =
     with_packed (place_beside beside target.number (slaves_of target.master own.packs))
     (record { master = target.master; number = target.number; request = with_settings settings (request_or_default target.number own.packs) }) own
@@ -36,6 +36,6 @@ packed_one settings beside target own =
 abbrev pub next_beside : Target → Option Beside → Option Beside
 next_beside target beside = option_map (λ _. record { number = target.number; after = true }) beside
 
-abbrev pub packed_all : List PackSetting → Option Beside → List Target → Packs → Packs
+abbrev pub packed_all : List PackSetting → Option Beside → List Target → Packing → Packing
 packed_all settings beside [] own = own
 packed_all settings beside (target ∷ targets) own = packed_all settings (next_beside target beside) targets (packed_one settings beside target own)

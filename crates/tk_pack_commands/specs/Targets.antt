@@ -2,7 +2,7 @@
 use Rattle.std.specs.Prelude.{ℕ, ◌+◌, Bool, false, ◌==◌, not, List, [], ◌∷◌, Option, None, Some, option_map, Result, Ok}
 use Rattle.std.specs.List.{position_or_len}
 use Rattle.tcl_text.specs.Answers.{◌>>=◌}
-use Rattle.tk_tree.specs.Own.{Own as Tree, at_path}
+use Rattle.tk_tree.specs.Own.{Tree, at_path}
 use Rattle.tk_tree.specs.declared.window.Window.{Window}
 use Rattle.tk_pack_commands.specs.declared.targets.Found.{Found}
 use Rattle.tk_pack_commands.specs.declared.targets.Target.{Target}

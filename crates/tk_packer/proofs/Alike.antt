@@ -4,7 +4,7 @@ use Rattle.std.specs.Prelude.{map, nat_eq}
 use Rattle.std.specs.Map.{lookup}
 use Rattle.tk_base.specs.declared.rect.Rect.{Rect}
 use Rattle.tk_packer.specs.Asked.{Sizes, requests_of, size_asked, with_asked, sizes_asked}
-use Rattle.tk_packer.specs.Changes.{is_same_rect, changes_at, changes_of, laid, laid_out, unlaid}
+use Rattle.tk_packer.specs.Changes.{is_same_rect, changes_at, changes_of, laid, laid_out_shapes, unlaid}
 use Rattle.tk_packer.specs.Layout.{Places, given_after, placed, first_place, layout}
 use Rattle.tk_packer.specs.declared.shape.Shape.{Shape}
 use Rattle.tk_packer.specs.declared.packed.Packed.{Packed}
@@ -19,11 +19,11 @@ settled : (shape : Shape) (place : Option Rect) → changes_at (laid shape place
 settled shape None = refl
 settled shape (Some rect) = rw (same_itself rect) refl
 
-nothing_left : (shapes : List Shape) (places : List (Option Rect)) → changes_of (laid_out shapes places) places ≡ []
-unfolding changes_of laid_out
+nothing_left : (shapes : List Shape) (places : List (Option Rect)) → changes_of (laid_out_shapes shapes places) places ≡ []
+unfolding changes_of laid_out_shapes
 nothing_left [] places = refl
 nothing_left (shape ∷ shapes) [] = refl
-nothing_left (shape ∷ shapes) (place ∷ places) = ap (λ cs. cs ++ changes_of (laid_out shapes places) places) (settled shape place) ∙ nothing_left shapes places
+nothing_left (shape ∷ shapes) (place ∷ places) = ap (λ cs. cs ++ changes_of (laid_out_shapes shapes places) places) (settled shape place) ∙ nothing_left shapes places
 
 -- ── where windows lay is no input ──
 size_unlaid : (shape : Shape) (requests : List Request) → size_asked (unlaid shape) requests ≡ size_asked shape requests
@@ -72,14 +72,14 @@ laid_unlaid : (shape : Shape) (place : Option Rect) → unlaid (laid shape place
 laid_unlaid shape None = refl
 laid_unlaid shape (Some rect) = refl
 
-still_alike : (shapes : List Shape) (places : List (Option Rect)) → map unlaid (laid_out shapes places) ≡ map unlaid shapes
-unfolding laid_out
+still_alike : (shapes : List Shape) (places : List (Option Rect)) → map unlaid (laid_out_shapes shapes places) ≡ map unlaid shapes
+unfolding laid_out_shapes
 still_alike [] places = refl
 still_alike (shape ∷ shapes) [] = refl
-still_alike (shape ∷ shapes) (place ∷ places) = ap (λ s. s ∷ map unlaid (laid_out shapes places)) (laid_unlaid shape place) ∙ ap (λ ss. unlaid shape ∷ ss) (still_alike shapes places)
+still_alike (shape ∷ shapes) (place ∷ places) = ap (λ s. s ∷ map unlaid (laid_out_shapes shapes places)) (laid_unlaid shape place) ∙ ap (λ ss. unlaid shape ∷ ss) (still_alike shapes places)
 
 pub laid_out_twice : (size : ℕ × ℕ) (packs : List Packed) (shapes : List Shape)
-    → changes_of (laid_out shapes (layout size packs shapes)) (layout size packs (laid_out shapes (layout size packs shapes))) ≡ []
+    → changes_of (laid_out_shapes shapes (layout size packs shapes)) (layout size packs (laid_out_shapes shapes (layout size packs shapes))) ≡ []
 laid_out_twice size packs shapes =
     let places = layout size packs shapes in
-    ap (changes_of (laid_out shapes places)) (layout_alike size packs (laid_out shapes places) shapes (still_alike shapes places)) ∙ nothing_left shapes places
+    ap (changes_of (laid_out_shapes shapes places)) (layout_alike size packs (laid_out_shapes shapes places) shapes (still_alike shapes places)) ∙ nothing_left shapes places

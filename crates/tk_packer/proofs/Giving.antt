@@ -6,7 +6,7 @@ use Rattle.std.specs.Map.{lookup}
 use Rattle.tk_base.specs.declared.rect.Rect.{Rect}
 use Rattle.tk_packer.specs.Asked.{Sizes, requests_of}
 use Rattle.tk_packer.specs.Arrangements.{Fits}
-use Rattle.tk_packer.specs.Layout.{Places, cavity_of, moved, with_place, give, given_after, placed}
+use Rattle.tk_packer.specs.Layout.{Places, cavity_of, counted_outside, with_place, give, given_after, placed}
 use Rattle.tk_packer.specs.declared.shape.Shape.{Shape}
 use Rattle.tk_packer.proofs.SameInputs.{Same, joined, one_more}
 use Rattle.tk_packer.proofs.Sizes.{requests_same}
@@ -17,7 +17,7 @@ use Rattle.tk_packer.specs.declared.request.Request.{Request}
 
 pub place_same : (border number : ℕ) (place : Option Rect) (one other : Places) → Same one other → Same (with_place border number place one) (with_place border number place other)
 place_same border number None one other same = same
-place_same border number (Some rect) one other same = one_more number (moved border rect) (moved border rect) one other refl same
+place_same border number (Some rect) one other same = one_more number (counted_outside border rect) (counted_outside border rect) one other refl same
 
 pub give_same : (border : ℕ) (slaves : List Packed) (places : List (Option Rect)) (one other : Places) → Same one other → Same (give border slaves places one) (give border slaves places other)
 unfolding give
@@ -121,7 +121,7 @@ given_some slaves sizes shape rect given after own places is places_is found = �
     found n ∙ ap (λ qs. lookup (nat_eq n) (give shape.border own qs given)) places_is
     ∙ ap (λ ps. lookup (nat_eq n) (give shape.border ps (arrangement (cavity_of rect shape.border) (requests_of sizes ps)) given)) is
 
--- ── rectangles inside a border can be moved by it ──
+-- ── rectangles inside a border can be counted from outside it ──
 lies_fits : (rect : Rect) (border : ℕ) (place : Option Rect) → rect.width < 2 ^ 32 → rect.height < 2 ^ 32 → LiesIn (cavity_of rect border) place → Fits border place
 lies_fits rect border None wide high lies = tt
 lies_fits rect border (Some inner) wide high lies = (omega (arith, lies.right, lies.width), omega (arith, lies.bottom, lies.height))

@@ -12,7 +12,7 @@ use Rattle.tk_packer.specs.declared.ask.Ask.{Ask}
 use Rattle.tk_packer.specs.declared.parcel.Extent.{Extent}
 use Rattle.tk_packer.specs.declared.request.Request.{Request}
 use Rattle.tk_packer.specs.Ask.{ask_of, inner_length}
-use Rattle.tk_packer.specs.Parcels.{taken, parcel_at, cavity_after, spare_before, place_of, length_in, place_in, placed, remaining, asks_of, rect_of, packed, LiesIn}
+use Rattle.tk_packer.specs.Parcels.{taken, parcel_at, cavity_after, spare_before, aligned, length_in, span_in, span_packed, remaining, asks_of, rect_of, packed, LiesIn}
 
 -- a stretch that ends by a place, and has a pixel
 pub record EndsBy (end : ℕ) (span : Extent) : Type 0 where
@@ -32,7 +32,7 @@ spare_before-le Centered spare = omega arith
 spare_before-le ToFar spare = omega arith
 
 -- a window between its pads, in a parcel of a size
-place_of-ends : (ask : Ask) (start before after size n end : ℕ) → n ≤ size - (before + after) → start + size ≤ end → IfSome (place_of ask (start + before) (size - (before + after)) n) (EndsBy end)
+place_of-ends : (ask : Ask) (start before after size n end : ℕ) → n ≤ size - (before + after) → start + size ≤ end → IfSome (aligned ask (start + before) (size - (before + after)) n) (EndsBy end)
 place_of-ends ask start before after size n end within fits = pick (n == 0) refl (spare_before-le ask.align (size - (before + after) - n))
   where
     pick : (b : Bool) → (n == 0) ≡ b → spare_before ask.align (size - (before + after) - n) ≤ size - (before + after) - n →
@@ -42,7 +42,7 @@ place_of-ends ask start before after size n end within fits = pick (n == 0) refl
         let some : n ≢ 0 = eqb-false n 0 is in
         record { by = omega arith; pixel = omega arith }
 
-place_in-ends : (ask : Ask) (parcel : Extent) (end : ℕ) → parcel.start + parcel.length ≤ end → IfSome (place_in ask parcel) (EndsBy end)
+place_in-ends : (ask : Ask) (parcel : Extent) (end : ℕ) → parcel.start + parcel.length ≤ end → IfSome (span_in ask parcel) (EndsBy end)
 place_in-ends ask parcel end fits =
     let room = parcel.length - (ask.before + ask.after) in
     place_of-ends ask parcel.start ask.before ask.after parcel.length (length_in ask room) end (length_in-le ask room) fits
@@ -60,8 +60,8 @@ cavity_after-ends (Some Far) cavity n end within fits = omega arith
 taken-le : (cavity : ℕ) (ask : Ask) (later : List Ask) → taken cavity ask later ≤ cavity
 taken-le cavity ask later = omega arith
 
-placed-ends : (cavity : Extent) (ask : Ask) (later : List Ask) (end : ℕ) → cavity.start + cavity.length ≤ end → IfSome (placed cavity ask later) (EndsBy end)
-unfolding placed
+placed-ends : (cavity : Extent) (ask : Ask) (later : List Ask) (end : ℕ) → cavity.start + cavity.length ≤ end → IfSome (span_packed cavity ask later) (EndsBy end)
+unfolding span_packed
 placed-ends cavity ask later end fits =
     let n = taken cavity.length ask later in
     place_in-ends ask (parcel_at ask.edge cavity n) end (parcel_at-ends ask.edge cavity n end (taken-le cavity.length ask later) fits)
@@ -83,8 +83,8 @@ packed-lies size columns rows (request ∷ later) wide high =
     let down = ask_of Vertical request in
     let beside = asks_of Horizontal later in
     let below = asks_of Vertical later in
-    All-cons (LiesIn size) (rect_of (placed columns across beside) (placed rows down below)) (packed (remaining columns across beside) (remaining rows down below) later)
-    (rect_of-lies size (placed columns across beside) (placed rows down below) (placed-ends columns across beside size.0 wide) (placed-ends rows down below size.1 high))
+    All-cons (LiesIn size) (rect_of (span_packed columns across beside) (span_packed rows down below)) (packed (remaining columns across beside) (remaining rows down below) later)
+    (rect_of-lies size (span_packed columns across beside) (span_packed rows down below) (placed-ends columns across beside size.0 wide) (placed-ends rows down below size.1 high))
     (packed-lies size (remaining columns across beside) (remaining rows down below) later (remaining-ends columns across beside size.0 wide) (remaining-ends rows down below size.1 high))
 
 pub length-packed : (columns rows : Extent) (requests : List Request) → length (packed columns rows requests) ≡ length requests

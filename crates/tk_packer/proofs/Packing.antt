@@ -5,11 +5,11 @@ use Rattle.tk_packer.specs.declared.ask.Axis.TheVariants.{Horizontal, Vertical}
 use Rattle.tk_packer.specs.declared.parcel.Extent.{Extent}
 use Rattle.tk_packer.specs.declared.request.Request.{Request}
 use Rattle.tk_packer.specs.Ask.{ask_of}
-use Rattle.tk_packer.specs.Parcels.{asks_of, placed, remaining, rect_of, packed}
+use Rattle.tk_packer.specs.Parcels.{asks_of, span_packed, remaining, rect_of, packed}
 
 -- one window more
 pub packed_more : (places : List (Option Rect)) (columns rows : Extent) (request : Request) (later : List Request) (rect : Option Rect) (columns_left rows_left : Extent) →
-    rect ≡ rect_of (placed columns (ask_of Horizontal request) (asks_of Horizontal later)) (placed rows (ask_of Vertical request) (asks_of Vertical later)) →
+    rect ≡ rect_of (span_packed columns (ask_of Horizontal request) (asks_of Horizontal later)) (span_packed rows (ask_of Vertical request) (asks_of Vertical later)) →
     columns_left ≡ remaining columns (ask_of Horizontal request) (asks_of Horizontal later) →
     rows_left ≡ remaining rows (ask_of Vertical request) (asks_of Vertical later) →
     (places ++ rect ∷ []) ++ packed columns_left rows_left later ≡ places ++ packed columns rows (request ∷ later)

@@ -31,10 +31,10 @@ abbrev pub laid : Shape → Option Rect → Shape
 laid shape None = record shape { mapped = false }
 laid shape (Some rect) = record shape { place = rect; mapped = true }
 
-unfoldable pub laid_out : List Shape → List (Option Rect) → List Shape
-laid_out [] places = []
-laid_out (shape ∷ shapes) [] = shape ∷ shapes
-laid_out (shape ∷ shapes) (place ∷ places) = laid shape place ∷ laid_out shapes places
+unfoldable pub laid_out_shapes : List Shape → List (Option Rect) → List Shape
+laid_out_shapes [] places = []
+laid_out_shapes (shape ∷ shapes) [] = shape ∷ shapes
+laid_out_shapes (shape ∷ shapes) (place ∷ places) = laid shape place ∷ laid_out_shapes shapes places
 
 -- a window as it is before it is laid out
 abbrev pub unlaid : Shape → Shape

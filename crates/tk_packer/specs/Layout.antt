@@ -18,13 +18,13 @@ abbrev pub cavity_of : Rect → ℕ → ℕ × ℕ
 cavity_of rect border = (rect.width - border - border, rect.height - border - border)
 
 -- a rectangle that counts from the inside of a border, counted from the outside
-abbrev pub moved : ℕ → Rect → Rect
-moved border rect = record rect { x = rect.x + border; y = rect.y + border }
+abbrev pub counted_outside : ℕ → Rect → Rect
+counted_outside border rect = record rect { x = rect.x + border; y = rect.y + border }
 
 -- a slave that has a pixel gets its rectangle
 abbrev pub with_place : ℕ → ℕ → Option Rect → Places → Places
 with_place border number None given = given
-with_place border number (Some rect) given = (number, moved border rect) ∷ given
+with_place border number (Some rect) given = (number, counted_outside border rect) ∷ given
 
 -- so do those of a master
 unfoldable pub give : ℕ → List Packed → List (Option Rect) → Places → Places

@@ -51,18 +51,18 @@ abbrev pub packed_at : ℕ → Packed → List Packed → List Packed
 packed_at place new packs = with_slave place new (without new.number packs)
 
 -- what one application has packed, and the numbers of the windows whose content doesn't decide what they ask for
-pub record Own : Type 0 where
+pub record Packing : Type 0 where
   pub packs : List Packed
   pub rigid : List ℕ
 
 -- nothing is packed, and every window propagates
-abbrev pub no_packs : Own
+abbrev pub no_packs : Packing
 no_packs = record { packs = []; rigid = [] }
 
-abbrev pub with_packed : ℕ → Packed → Own → Own
+abbrev pub with_packed : ℕ → Packed → Packing → Packing
 with_packed place new own = record own { packs = packed_at place new own.packs }
 
-abbrev pub without_packed : ℕ → Own → Own
+abbrev pub without_packed : ℕ → Packing → Packing
 without_packed number own = record own { packs = without number own.packs }
 
 -- all numbers but one
@@ -70,28 +70,28 @@ abbrev pub without_number : ℕ → List ℕ → List ℕ
 without_number number numbers = filter (λ other. not (other == number)) numbers
 
 -- whether what is packed in a window decides what it asks for (pack(n), "GEOMETRY PROPAGATION")
-abbrev pub propagates_in : ℕ → Own → Bool
+abbrev pub propagates_in : ℕ → Packing → Bool
 propagates_in number own = not (list_any (λ other. other == number) own.rigid)
 
 -- the windows that don't propagate, when one does or doesn't
 abbrev pub rigid_after : ℕ → Bool → List ℕ → List ℕ
 rigid_after number propagates numbers = if propagates then without_number number numbers else replaced (λ other. other) number (number ∷ []) numbers
 
-abbrev pub with_propagation : ℕ → Bool → Own → Own
+abbrev pub with_propagation : ℕ → Bool → Packing → Packing
 with_propagation number propagates own = record own { rigid = rigid_after number propagates own.rigid }
 
 -- a window that is gone is packed nowhere, and nothing is said of it
-abbrev pub without_window : ℕ → Own → Own
+abbrev pub without_window : ℕ → Packing → Packing
 without_window number own = record { packs = without number own.packs; rigid = without_number number own.rigid }
 
 -- ---- all applications
 
 -- what each application has, by its number
 abbrev pub Held : Type 0
-Held = List (ℕ × Own)
+Held = List (ℕ × Packing)
 
 -- what one application has in a table
-abbrev pub own_of : ℕ → Held → Own
+abbrev pub own_of : ℕ → Held → Packing
 own_of owner held = option_map_or (λ own. own) (lookup (nat_eq owner) held) no_packs
 
 -- every application but one has what it had

@@ -56,20 +56,20 @@ spare_before Centered spare = spare / 2
 spare_before ToFar spare = spare
 
 -- the window in its parcel: within the pads, no longer than it is unless it fills; nowhere where no pixel is left for it
-abbrev pub place_of : Ask → ℕ → ℕ → ℕ → Option Extent
-place_of ask start room length =
+abbrev pub aligned : Ask → ℕ → ℕ → ℕ → Option Extent
+aligned ask start room length =
     if length == 0 then None else Some (record { start = start + spare_before ask.align (room - length); length = length })
 
 abbrev pub length_in : Ask → ℕ → ℕ
 length_in ask room = if ask.fills then room else min (inner_length ask) room
 
-abbrev pub place_in : Ask → Extent → Option Extent
-place_in ask parcel =
+abbrev pub span_in : Ask → Extent → Option Extent
+span_in ask parcel =
     let room = parcel.length - (ask.before + ask.after) in
-    place_of ask (parcel.start + ask.before) room (length_in ask room)
+    aligned ask (parcel.start + ask.before) room (length_in ask room)
 
-unfoldable pub placed : Extent → Ask → List Ask → Option Extent
-placed cavity ask later = place_in ask (parcel_at ask.edge cavity (taken cavity.length ask later))
+unfoldable pub span_packed : Extent → Ask → List Ask → Option Extent
+span_packed cavity ask later = span_in ask (parcel_at ask.edge cavity (taken cavity.length ask later))
 
 unfoldable pub remaining : Extent → Ask → List Ask → Extent
 remaining cavity ask later = cavity_after ask.edge cavity (taken cavity.length ask later)
@@ -89,7 +89,7 @@ asks_of axis requests = map (ask_of axis) requests
 unfoldable pub packed : Extent → Extent → List Request → List (Option Rect)
 packed columns rows [] = []
 packed columns rows (request ∷ later) =
-    rect_of (placed columns (ask_of Horizontal request) (asks_of Horizontal later)) (placed rows (ask_of Vertical request) (asks_of Vertical later))
+    rect_of (span_packed columns (ask_of Horizontal request) (asks_of Horizontal later)) (span_packed rows (ask_of Vertical request) (asks_of Vertical later))
     ∷ packed (remaining columns (ask_of Horizontal request) (asks_of Horizontal later))
     (remaining rows (ask_of Vertical request) (asks_of Vertical later)) later
 

@@ -1,6 +1,6 @@
 //! Laws of layouts. The functions do nothing: their contracts are the laws.
 ghost use Rattle.std.specs.Prelude.{◌≡◌, ℕ, List, [], map};
-ghost use Rattle.tk_packer.specs.Changes.{changes_of, laid_out, unlaid};
+ghost use Rattle.tk_packer.specs.Changes.{changes_of, laid_out_shapes, unlaid};
 ghost use Rattle.tk_packer.specs.Layout.{layout};
 ghost use Rattle.tk_packer.specs.declared.shape.Shape.{Shape};
 ghost use Rattle.tk_packer.specs.declared.packed.Packed.{Packed};
@@ -15,5 +15,5 @@ pub fn old_places_are_no_input()
 /// To lay out what is laid out changes nothing.
 pub fn laid_out_is_settled()
     ensures { (size : ℕ × ℕ) (packs : List Packed) (shapes : List Shape)
-        → changes_of (laid_out shapes (layout size packs shapes)) (layout size packs (laid_out shapes (layout size packs shapes))) ≡ [] }
+        → changes_of (laid_out_shapes shapes (layout size packs shapes)) (layout size packs (laid_out_shapes shapes (layout size packs shapes))) ≡ [] }
 {}

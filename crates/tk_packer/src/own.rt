@@ -23,10 +23,10 @@ pub struct OwnPacks {
 impl Model for OwnPacks {
     ghost use Rattle.std.specs.Prelude.{nat_eq};
     ghost use Rattle.std.specs.Map.{lookup};
-    ghost use Rattle.tk_packer.specs.Packs.{Own};
+    ghost use Rattle.tk_packer.specs.Packs.{Packing};
     ghost use Rattle.tk_packer.specs.Tables.{gathered, rising, slaves_at, AreTied};
 
-    ghost Value = { Own };
+    ghost Value = { Packing };
 
     ghost view = { λ o. record { packs = gathered o.masters.entries; rigid = rising o.rigid.keys } };
 

@@ -2,7 +2,7 @@
 ghost use Rattle.std.specs.Prelude.{◌≡◌, ◌+◌, ◌-◌, ◌^◌, ◌<◌, ◌≤◌, List, ◌∷◌};
 ghost use Rattle.tk_packer.specs.Ask.{ask_of};
 ghost use Rattle.tk_packer.specs.declared.ask.Ask.{Ask};
-ghost use Rattle.tk_packer.specs.Parcels.{share, taken, asks_of, placed, remaining, parcel_at, cavity_after, spare_before, length_in, place_in};
+ghost use Rattle.tk_packer.specs.Parcels.{share, taken, asks_of, span_packed, remaining, parcel_at, cavity_after, spare_before, length_in, span_in};
 
 use crate::ask::{Align, Ask, Axis, Edge};
 use crate::request::Request;
@@ -161,9 +161,9 @@ fn length_in(ask: &Ask, room: u32) -> u32
 }
 
 /// Where the window lies in its parcel; nowhere where no pixel is left for it.
-fn place_in(ask: &Ask, parcel: Extent) -> Option<Extent>
+fn span_in(ask: &Ask, parcel: Extent) -> Option<Extent>
     requires { parcel.start + parcel.length < 2 ^ 32 }
-    ensures { result ≡ place_in ask.now parcel }
+    ensures { result ≡ span_in ask.now parcel }
 {
     let pads = u64::from(ask.before) + u64::from(ask.after);
     let room = u64::from(parcel.length).saturating_sub(pads) as u32;
@@ -176,7 +176,7 @@ fn place_in(ask: &Ask, parcel: Extent) -> Option<Extent>
 }
 
 /// Where a window of the cavity lies along an axis, and what of the cavity it leaves to those packed later.
-#[tactic(auto, unfolding(crate::specs::Parcels::placed, crate::specs::Parcels::remaining))]
+#[tactic(auto, unfolding(crate::specs::Parcels::span_packed, crate::specs::Parcels::remaining))]
 pub fn packed_first(
     axis: Axis,
     cavity: Extent,
@@ -184,17 +184,17 @@ pub fn packed_first(
     later: &[Request],
 ) -> (Option<Extent>, Extent)
     requires { cavity.start + cavity.length < 2 ^ 32 }
-    ensures place { result.0 ≡ placed cavity (ask_of axis request.now) (asks_of axis later.now) }
+    ensures place { result.0 ≡ span_packed cavity (ask_of axis request.now) (asks_of axis later.now) }
     ensures cavity { result.1 ≡ remaining cavity (ask_of axis request.now) (asks_of axis later.now) }
     ensures end { result.1.start + result.1.length ≤ cavity.start + cavity.length }
 {
     let ask = Ask::of(axis, request);
     match ask.edge {
-        None => (place_in(&ask, cavity), cavity),
+        None => (span_in(&ask, cavity), cavity),
         Some(edge) => {
             let length = taken(axis, cavity.length, &ask, later);
             let parcel = parcel_at(edge, cavity, length);
-            (place_in(&ask, parcel), cavity_after(edge, cavity, length))
+            (span_in(&ask, parcel), cavity_after(edge, cavity, length))
         }
     }
 }

@@ -3,7 +3,7 @@ ghost use Rattle.std.specs.Prelude.{◌≡◌, ℕ, ◌+◌, ◌^◌, ◌<◌, I
 ghost use Rattle.std.specs.Map.{lookup};
 ghost use Rattle.tk_packer.specs.Groups.{slaves_in};
 ghost use Rattle.tk_packer.specs.Arrangements.{Fits};
-ghost use Rattle.tk_packer.specs.Layout.{cavity_of, moved, with_place, give, given_after, placed, whole_of, first_place};
+ghost use Rattle.tk_packer.specs.Layout.{cavity_of, counted_outside, with_place, give, given_after, placed, whole_of, first_place};
 
 use crate::arrangements::Arrangements;
 use crate::asked::requests_of;
@@ -158,14 +158,14 @@ fn give_one(
         ≡ lookup (nat_eq other) (with_place border number place given.old.entries)) }
 {
     if let Some(rect) = place {
-        given.insert(number, moved(border, rect))?;
+        given.insert(number, counted_outside(border, rect))?;
     }
     Ok(())
 }
 
-fn moved(border: u32, rect: Rect) -> Rect
+fn counted_outside(border: u32, rect: Rect) -> Rect
     requires { (rect.x + border < 2 ^ 32) × (rect.y + border < 2 ^ 32) }
-    ensures { result ≡ moved border rect }
+    ensures { result ≡ counted_outside border rect }
 {
     Rect {
         x: rect.x + border,

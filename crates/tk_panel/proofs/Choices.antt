@@ -22,7 +22,7 @@ by_window event panel (Some window) = by_scripts event panel (scripts_of event p
 -- the events that wait
 pub chosen_queue : (event : Event) (panel : Panel) → (chosen event panel).0.queue ≡ panel.queue
 unfolding chosen
-chosen_queue event panel = by_window event panel (window_at event.number panel.screen.tree)
+chosen_queue event panel = by_window event panel (window_at event.number panel.windowing.tree)
 
 -- ── a refused substitution ──
 
@@ -30,11 +30,11 @@ at_window : (event : Event) (panel : Panel) (window : Option Window) → is_some
 at_window event panel None is = cc
 at_window event panel (Some window) is = refl
 
-pub chosen_refused : (event : Event) (panel told : Panel) (history : List Event) (text : List ℕ) → is_some (window_at event.number panel.screen.tree) ≡ true → scripts_of event panel ≡ Err text
+pub chosen_refused : (event : Event) (panel told : Panel) (history : List Event) (text : List ℕ) → is_some (window_at event.number panel.windowing.tree) ≡ true → scripts_of event panel ≡ Err text
     → told ≡ with_line Errors text panel → history ≡ entered event told.history → (record told { history = history }, []) ≡ chosen event panel
 unfolding chosen
 chosen_refused event panel told history text is refused tells enters =
     ap (λ h. (record told { history = h }, [])) enters
     ∙ ap (λ (p : Panel). (with_entered event p, [])) tells
     ∙ ap (on_scripts event panel) (sym refused)
-    ∙ at_window event panel (window_at event.number panel.screen.tree) is
+    ∙ at_window event panel (window_at event.number panel.windowing.tree) is

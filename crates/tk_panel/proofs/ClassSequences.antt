@@ -6,7 +6,8 @@ use Rattle.tk_base.specs.declared.kind.Kind.TheVariants as kind
 use Rattle.tk_options.specs.Rows.{row_of}
 use Rattle.tk_base.specs.Names.{key_names}
 use Rattle.tk_panel.specs.ClassLaws.{ClassesBindSequences}
-use Rattle.tk_sequences.specs.Reading.{fields, key_meant, detail_of, headed, pattern_of, plain_pattern, physical, name_in, parsed}
+use Rattle.tk_sequences.specs.Reading.{fields, key_meant, detail_of, headed, pattern_of, plain_pattern, physical, parsed}
+use Rattle.tk_sequences.specs.Words.{name_in}
 
 pub classes : ClassesBindSequences
 unfolding fields key_names key_meant detail_of headed pattern_of plain_pattern physical name_in parsed

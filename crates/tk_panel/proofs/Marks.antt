@@ -4,7 +4,7 @@ use Rattle.std.specs.Prelude.{◌==◌, Some, is_some}
 use Rattle.tk_base.specs.Bag.{changed_at, numbered}
 use Rattle.tk_tree.specs.declared.window.Window.{Window}
 use Rattle.tk_tree.specs.Change.{dying}
-use Rattle.tk_tree.specs.Own.{Own, window_at, with_change}
+use Rattle.tk_tree.specs.Own.{Tree, window_at, with_change}
 use Rattle.tk_tree.specs.Window.{number_of}
 use Rattle.tk_panel.specs.Destroy.{all_dying, marked}
 use Rattle.tk_panel.specs.Panel.{Panel}
@@ -18,7 +18,7 @@ absent n (x ∷ xs) none = by (number_of x == n) none (absent n xs)
     by true none later = cc
     by false none later = ap (λ ys. x ∷ ys) (later none)
 
-pub unmarked : (number : ℕ) (own : Own) → is_some (window_at number own) ≡ false → own ≡ with_change number dying own
+pub unmarked : (number : ℕ) (own : Tree) → is_some (window_at number own) ≡ false → own ≡ with_change number dying own
 unmarked number own none = ap (λ windows. record own { windows = windows }) (absent number own.windows none)
 
 -- where no window is meant, nothing is marked

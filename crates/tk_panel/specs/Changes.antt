@@ -11,7 +11,7 @@ use Rattle.tk_sequences.specs.declared.event_type.EventType.{EventType}
 use Rattle.tk_sequences.specs.declared.event_type.EventType.TheVariants as types
 use Rattle.tk_tree.specs.declared.window.Window.{Window}
 use Rattle.tk_tree.specs.Own.{window_at}
-use Rattle.tk_screen.specs.Layout.{changes_due, laid_out as laid_out_screen}
+use Rattle.tk_screen.specs.Layout.{changes_due, laid_out_windowing}
 use Rattle.tk_panel.specs.Panel.{Panel}
 
 -- ── the events of changes ──
@@ -21,13 +21,13 @@ abbrev pub window_event : EventType → Window → ℕ → Event
 window_event type window moment = bare_event (Physical type) window.number window.path moment
 
 -- a place in pixels, which lies far below 2^31
-abbrev pub place_of : ℕ → Option ℤ
-place_of x = if nat_lt x (2 ^ 31) then Some (pos x) else None
+abbrev pub in_pixels : ℕ → Option ℤ
+in_pixels x = if nat_lt x (2 ^ 31) then Some (pos x) else None
 
 -- Configure tells the window's rectangle of then
 abbrev pub configure_event : Window → Rect → ℕ → Event
 configure_event window rect moment =
-    record (window_event types.Configure window moment) { x = place_of rect.x; y = place_of rect.y; width = Some rect.width; height = Some rect.height }
+    record (window_event types.Configure window moment) { x = in_pixels rect.x; y = in_pixels rect.y; width = Some rect.width; height = Some rect.height }
 
 abbrev pub event_of : PlaceChange → Window → ℕ → Event
 event_of (Unmap number) window moment = window_event types.Unmap window moment
@@ -44,16 +44,16 @@ abbrev pub queued_at : PlaceChange → Panel → Option Window → Panel
 queued_at change panel None = panel
 queued_at change panel (Some window) = record panel { queue = panel.queue ++ event_of change window panel.moment ∷ [] }
 
-abbrev pub with_change : PlaceChange → Panel → Panel
-with_change change panel = queued_at change panel (window_at (number_of change) panel.screen.tree)
+abbrev pub with_event_of : PlaceChange → Panel → Panel
+with_event_of change panel = queued_at change panel (window_at (number_of change) panel.windowing.tree)
 
 -- those of changes, in their order
-unfoldable pub with_changes : List PlaceChange → Panel → Panel
-with_changes [] panel = panel
-with_changes (change ∷ changes) panel = with_changes changes (with_change change panel)
+unfoldable pub with_events_of : List PlaceChange → Panel → Panel
+with_events_of [] panel = panel
+with_events_of (change ∷ changes) panel = with_events_of changes (with_event_of change panel)
 
 -- ── layout ──
 
 -- the windows lie where the layout says, with the texts that variables have, and what that changes is queued
 unfoldable pub laid_out : Store → Panel → Panel
-laid_out store panel = with_changes (changes_due panel.screen store) (record panel { screen = laid_out_screen panel.screen store })
+laid_out store panel = with_events_of (changes_due panel.windowing store) (record panel { windowing = laid_out_windowing panel.windowing store })

@@ -11,7 +11,7 @@ use Rattle.tk_panel.specs.Reports.{with_line}
 
 -- the scripts of all tags of the window, or the first refusal
 abbrev pub scripts_of : Event → Panel → Chosen
-scripts_of event panel = scripts_for panel.screen.tree panel.bindings panel.virtuals event.number event panel.history
+scripts_of event panel = scripts_for panel.windowing.tree panel.bindings panel.virtuals event.number event panel.history
 
 -- it enters the history, if it is of a key or a button
 abbrev pub with_entered : Event → Panel → Panel
@@ -29,4 +29,4 @@ chosen_at event panel (Some window) = on_scripts event panel (scripts_of event p
 
 -- what is left of the application, and the scripts that are to run
 unfoldable pub chosen : Event → Panel → Panel × List (List ℕ)
-chosen event panel = chosen_at event panel (window_at event.number panel.screen.tree)
+chosen event panel = chosen_at event panel (window_at event.number panel.windowing.tree)

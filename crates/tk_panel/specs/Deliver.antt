@@ -15,9 +15,9 @@ with_arrivals arrivals panel = record panel { input = arrivals.input; queue = ar
 
 -- the rectangle has another size; `.` fills it at the next layout
 abbrev pub with_rectangle : LocalKind → Panel → Panel
-with_rectangle (Size width height) panel = record panel { screen = with_size (width, height) panel.screen }
+with_rectangle (Size width height) panel = record panel { windowing = with_size (width, height) panel.windowing }
 with_rectangle kind panel = panel
 
 -- keys go to the focus window, the pointer to the window that it is in or that holds it, the host's focus to the focus window, with the windows as they are
 unfoldable pub delivered_panel : LocalEvent → Panel → Panel
-delivered_panel event panel = with_rectangle event.kind (with_arrivals (arrived event panel.screen.tree (arrivals_in panel)) panel)
+delivered_panel event panel = with_rectangle event.kind (with_arrivals (arrived event panel.windowing.tree (arrivals_in panel)) panel)

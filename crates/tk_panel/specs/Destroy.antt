@@ -6,7 +6,7 @@ use Rattle.tk_panel.specs.declared.job.Rest.TheVariants.{Destroys}
 use Rattle.tk_panel.specs.Choice.{chosen}
 use Rattle.tk_panel.specs.Panel.{Panel}
 unfoldable pub use Rattle.tk_panel.specs.Removal.{all_dying, removed}
-pub use Rattle.tk_panel.specs.Removal.{all_dying_in, destroy_event, doomed_at, doomed_by, doomed_from, marked, removed_at, without_path}
+pub use Rattle.tk_panel.specs.Removal.{all_dying_in, destroy_event, doomed_by, marked, removed_at, without_path}
 use Rattle.tk_panel.specs.Settle.{Next}
 
 -- ── the event is dispatched ──
@@ -17,7 +17,7 @@ destroy_at panel (Some window) = chosen (destroy_event window panel.moment) pane
 
 -- the scripts of the Destroy event of the window with a number, if it is still there
 abbrev pub destroy_chosen : ℕ → Panel → Panel × List (List ℕ)
-destroy_chosen number panel = destroy_at panel (window_at number panel.screen.tree)
+destroy_chosen number panel = destroy_at panel (window_at number panel.windowing.tree)
 
 -- ── one after another ──
 

@@ -10,7 +10,7 @@ use Rattle.tk_panel.specs.Panel.{Panel}
 abbrev pub nothing : ℕ → Panel
 nothing moment = record {
   moment = moment;
-  screen = screens.nothing;
+  windowing = screens.nothing;
   bindings = [];
   virtuals = [];
   history = [];
@@ -22,4 +22,4 @@ nothing moment = record {
 
 -- a new application of a name, with a rectangle of a size: its main window `.`, and what the classes of widgets bind
 unfoldable pub fresh : List ℕ → ℕ × ℕ → ℕ → Panel
-fresh name size moment = record (nothing moment) { screen = screens.added name size; bindings = with_class_bindings [] }
+fresh name size moment = record (nothing moment) { windowing = screens.added name size; bindings = with_class_bindings [] }

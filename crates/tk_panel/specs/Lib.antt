@@ -8,6 +8,7 @@ pub mod Deliver
 pub mod Destroy
 pub mod Fresh
 pub mod Next
+pub mod Others
 pub mod Panel
 pub mod Removal
 pub mod Reports

@@ -1,7 +1,5 @@
 -- Meaning. What one application has in the tables of all.
-use Rattle.std.specs.Prelude.{◌≡◌, ℕ, Bool, List, ◌==◌, filter, map, not, is_none, codes}
-use Rattle.std.specs.Borrow.{GName}
-use Rattle.std.specs.List.{range_with_len}
+use Rattle.std.specs.Prelude.{◌≡◌, ℕ, Bool, List, is_none, codes}
 use Rattle.tk_after.specs.Timers as timers
 use Rattle.tk_dispatch.specs.Histories as histories
 use Rattle.tk_sequences.specs.declared.event.Event.{Event}
@@ -22,7 +20,7 @@ pub record Panel : Type 0 where
   -- the moment, in milliseconds, which is the same for all applications
   pub moment : ℕ
   -- its windows, their widgets, what is packed, and its rectangle
-  pub screen : screens.Own
+  pub windowing : screens.Windowing
   -- in the order of registration
   pub bindings : List Binding
   pub virtuals : List Pair
@@ -30,9 +28,9 @@ pub record Panel : Type 0 where
   pub history : List Event
   -- the events that wait, the next one first
   pub queue : List Event
-  -- which window has the keys, where the pointer is, which button is pressed
+  -- which window has the keys, where the pointer is, which button widget is pressed
   pub input : Input
-  pub timers : timers.Own
+  pub timers : timers.Timers
   pub transcript : List Line
 
 -- with these events waiting
@@ -41,12 +39,12 @@ with_queue events panel = record panel { queue = events }
 
 -- the main window is gone
 abbrev pub is_closed : Panel → Bool
-is_closed panel = is_none (at_path (codes ".") panel.screen.tree)
+is_closed panel = is_none (at_path (codes ".") panel.windowing.tree)
 
 abbrev pub panel_of : ℕ → Tables → Panel
 panel_of slot tables = record {
   moment = tables.clock;
-  screen = screens.own_of slot tables.screen;
+  windowing = screens.own_of slot tables.screen;
   bindings = bindings.own_of slot tables.bindings;
   virtuals = virtuals.own_of slot tables.virtuals;
   history = histories.own_of slot tables.histories;
@@ -67,17 +65,3 @@ pub record LeavesOthers (slot : ℕ) (old new : Tables) : Type 0 where
   pub inputs : inputs.LeavesOthers slot old.inputs new.inputs
   pub timers : timers.LeavesOthers slot old.timers new.timers
   pub lines : LeavesLines slot old.transcripts new.transcripts
-
--- what each of the 16 slots but one has
-unfoldable pub others_of : ℕ → Tables → List Panel
-others_of slot tables = map (λ other. panel_of other tables) (filter (λ other. not (other == slot)) (range_with_len 0 16))
-
--- what the calls of one application leave alone: which one it is, the tables that it is in, the moment, and what the others have
-pub record LeftAlone : Type 0 where
-  pub slot : ℕ
-  pub name : GName
-  pub moment : ℕ
-  pub others : List Panel
-
-abbrev pub left_of : ℕ → GName → Tables → LeftAlone
-left_of slot name tables = record { slot = slot; name = name; moment = tables.clock; others = others_of slot tables }

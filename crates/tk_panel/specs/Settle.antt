@@ -3,7 +3,7 @@
 use Rattle.std.specs.Prelude.{ℕ, Bool, false, List, [], ◌∷◌, Option, Some, None, is_some, nat_le, if◌then◌else◌}
 use Rattle.std.specs.Option.{option_map_or}
 use Rattle.tcl_vars.specs.Store.{Store}
-use Rattle.tk_after.specs.declared.entry.Entry.{Entry}
+use Rattle.tk_after.specs.declared.waiting.WaitingScript.{WaitingScript}
 use Rattle.tk_after.specs.Timers.{due_moments, entry_with, idle_ids, least}
 use Rattle.tk_sequences.specs.declared.event.Event.{Event}
 use Rattle.tk_panel.specs.declared.job.Job.{Job}
@@ -34,11 +34,11 @@ drained (event ∷ events) panel = (let there : Panel × List (List ℕ) = chose
 -- ── what waits ──
 
 -- a timer is due by a moment
-abbrev pub is_due : ℕ → List Entry → Bool
+abbrev pub is_due : ℕ → List WaitingScript → Bool
 is_due moment entries = option_map_or (λ due. nat_le due moment) (least (due_moments entries)) false
 
 -- the rest of a round, from the first idle script on that still waits
-unfoldable pub still_waiting : List ℕ → List Entry → List ℕ
+unfoldable pub still_waiting : List ℕ → List WaitingScript → List ℕ
 still_waiting [] entries = []
 still_waiting (id ∷ ids) entries = if is_some (entry_with id entries) then id ∷ ids else still_waiting ids entries
 

@@ -1,7 +1,7 @@
 -- Steps. What starts once its step is taken.
 use Rattle.std.specs.Prelude.{ℕ, List, [], ◌∷◌, Option, Some, None}
 use Rattle.std.specs.Option.{option_map_or}
-use Rattle.tk_after.specs.declared.entry.Entry.{Entry}
+use Rattle.tk_after.specs.declared.waiting.WaitingScript.{WaitingScript}
 use Rattle.tk_after.specs.Timers.{entry_with, first_due, without}
 use Rattle.tk_panel.specs.declared.job.Job.{Job}
 use Rattle.tk_panel.specs.declared.job.Rest.{Rest}
@@ -17,15 +17,15 @@ abbrev pub without_event : Rest → Job
 without_event rest = record { event = None; rest = rest }
 
 -- the timer that is due leaves its table, and runs
-abbrev pub timer_taken : Rest → Panel → Option Entry → Started
+abbrev pub timer_taken : Rest → Panel → Option WaitingScript → Started
 timer_taken rest panel (Some entry) = (record panel { timers = without entry.id panel.timers }, (entry.script, without_event rest))
 timer_taken rest panel None = (panel, ([], without_event rest))
 
 -- so does an idle script
-abbrev pub script_in : Option Entry → List ℕ
+abbrev pub script_in : Option WaitingScript → List ℕ
 script_in entry = option_map_or (λ entry. entry.script) entry []
 
-abbrev pub idle_taken : ℕ → Rest → Panel → Option Entry → Started
+abbrev pub idle_taken : ℕ → Rest → Panel → Option WaitingScript → Started
 idle_taken id rest panel entry = (record panel { timers = without id panel.timers }, (script_in entry, without_event rest))
 
 -- the timer that is due, or the first idle script of the round

@@ -1,6 +1,6 @@
 //! Layout, and the events that it queues (pack(n), bind(n)).
 ghost use Rattle.std.specs.Prelude.{◌≡◌, OnOk, IfOk};
-ghost use Rattle.tk_panel.specs.Changes.{configure_event, event_of, laid_out, number_of, place_of, window_event, with_change, with_changes};
+ghost use Rattle.tk_panel.specs.Changes.{configure_event, event_of, laid_out, number_of, in_pixels, window_event, with_event_of, with_events_of};
 ghost use Rattle.tk_panel.specs.Panel.{LeavesOthers, panel_of};
 
 use crate::tables::Tables;
@@ -19,8 +19,8 @@ fn window_event(kind: EventType, window: &Window, moment: u64) -> Result<Event, 
     Ok(Event::new(EventKind::Physical(kind), window.number, path, moment))
 }
 
-fn place_of(x: u32) -> Option<i32>
-    ensures { result ≡ place_of x }
+fn in_pixels(x: u32) -> Option<i32>
+    ensures { result ≡ in_pixels x }
 {
     match i32::try_from(x) {
         Ok(x) => Some(x),
@@ -33,8 +33,8 @@ fn configure_event(window: &Window, rect: Rect, moment: u64) -> Result<Event, Al
     ensures { IfOk result (λ event. event ≡ configure_event window.now rect moment) }
 {
     let mut event = window_event(EventType::Configure, window, moment)?;
-    event.x = place_of(rect.x);
-    event.y = place_of(rect.y);
+    event.x = in_pixels(rect.x);
+    event.y = in_pixels(rect.y);
     event.width = Some(rect.width);
     event.height = Some(rect.height);
     Ok(event)
@@ -62,7 +62,7 @@ fn number_of(change: PlaceChange) -> u64
 
 /// Queues the event of a change.
 fn queue_change(tables: &mut Tables, slot: usize, change: PlaceChange) -> Result<(), AllocError>
-    ensures own { OnOk result (panel_of slot tables.new ≡ with_change change (panel_of slot tables.old)) }
+    ensures own { OnOk result (panel_of slot tables.new ≡ with_event_of change (panel_of slot tables.old)) }
     ensures others { LeavesOthers slot tables.old tables.new }
 {
     let win = Win {
@@ -79,13 +79,13 @@ fn queue_change(tables: &mut Tables, slot: usize, change: PlaceChange) -> Result
 }
 
 /// Queues the events of changes, in their order.
-#[tactic(auto, unfolding(crate::specs::Changes::with_changes))]
+#[tactic(auto, unfolding(crate::specs::Changes::with_events_of))]
 fn queue_changes(
     tables: &mut Tables,
     slot: usize,
     changes: &[PlaceChange],
 ) -> Result<(), AllocError>
-    ensures own { OnOk result (panel_of slot tables.new ≡ with_changes changes.now (panel_of slot tables.old)) }
+    ensures own { OnOk result (panel_of slot tables.new ≡ with_events_of changes.now (panel_of slot tables.old)) }
     ensures others { LeavesOthers slot tables.old tables.new }
 {
     let mut rest = changes;

@@ -4,7 +4,7 @@ use Rattle.std.proofs.lemmas.Bool.{eqb-true}
 use Rattle.tk_base.specs.Bag.{AllAbove, IsRising}
 use Rattle.tk_tree.specs.declared.window.Window.{Window}
 use Rattle.tk_tree.specs.Orders.{below, subtree}
-use Rattle.tk_tree.specs.Own.{HasOlderParent, HaveOlderParents, IsSound, Own, is_child_of}
+use Rattle.tk_tree.specs.Own.{HasOlderParent, HaveOlderParents, IsSound, Tree, is_child_of}
 use Rattle.tk_tree.specs.Window.{number_of}
 
 -- none of the numbers is this one
@@ -144,6 +144,6 @@ once_below number (window ∷ windows) rising parents =
     by false is own others = others
 
 -- a window and those below it
-pub once_under : (number : ℕ) (own : Own) → IsSound own → Once (subtree number own)
+pub once_under : (number : ℕ) (own : Tree) → IsSound own → Once (subtree number own)
 once_under number own sound =
     (absent_above number (below number own.windows) (above_itself number own.windows sound.rising sound.parents), once_below number own.windows sound.rising sound.parents)

@@ -4,14 +4,14 @@ use Rattle.std.specs.Prelude.{◌==◌, ◌&&◌, if◌then◌else◌, option_ma
 use Rattle.std.proofs.lemmas.Bool.{eqb-true}
 use Rattle.tk_base.specs.Bag.{numbered, changed_at}
 use Rattle.tk_base.specs.declared.rect.Rect.{Rect}
-use Rattle.tk_packer.specs.Changes.{is_same_rect, changes_at, changes_of, laid, laid_out}
+use Rattle.tk_packer.specs.Changes.{is_same_rect, changes_at, changes_of, laid, laid_out_shapes}
 use Rattle.tk_packer.specs.declared.changes.PlaceChange.{PlaceChange}
 use Rattle.tk_packer.specs.declared.changes.PlaceChange.TheVariants.{Unmap, Configure, Map}
 use Rattle.tk_packer.specs.declared.shape.Shape.{Shape}
 use Rattle.tk_screen.specs.Placing.{mapped_as, placed_at, with_mapped, with_rect, with_changed, with_changes}
 use Rattle.tk_screen.specs.Reading.{IsRead, AllRead, IsOfNone, AreApart}
 use Rattle.tk_tree.specs.Change.{with_place}
-use Rattle.tk_tree.specs.Own.{Own, window_at}
+use Rattle.tk_tree.specs.Own.{Tree, window_at}
 use Rattle.tk_tree.specs.Window.{number_of}
 use Rattle.tk_tree.specs.declared.window.Window.{Window}
 
@@ -45,19 +45,19 @@ changed_other m n place mapped (w ∷ ws) differ = by (w.number == n) (w.number 
 
 -- ── one change of a layout ──
 
-mapped_same : (n : ℕ) (b : Bool) (own : Own) (w : Window) → window_at n own ≡ Some w → window_at n (with_mapped n b own) ≡ Some (with_place w.place b w)
+mapped_same : (n : ℕ) (b : Bool) (own : Tree) (w : Window) → window_at n own ≡ Some w → window_at n (with_mapped n b own) ≡ Some (with_place w.place b w)
 mapped_same n b own w there =
     ap (λ found. window_at n (mapped_as n b found own)) there ∙ changed_same n w.place b own.windows ∙ ap (option_map (with_place w.place b)) there
 
-placed_same : (n : ℕ) (place : Rect) (own : Own) (w : Window) → window_at n own ≡ Some w → window_at n (with_rect n place own) ≡ Some (with_place place w.mapped w)
+placed_same : (n : ℕ) (place : Rect) (own : Tree) (w : Window) → window_at n own ≡ Some w → window_at n (with_rect n place own) ≡ Some (with_place place w.mapped w)
 placed_same n place own w there =
     ap (λ found. window_at n (placed_at n place found own)) there ∙ changed_same n place w.mapped own.windows ∙ ap (option_map (with_place place w.mapped)) there
 
-mapped_other : (m n : ℕ) (b : Bool) (found : Option Window) (own : Own) → m ≢ n → window_at m (mapped_as n b found own) ≡ window_at m own
+mapped_other : (m n : ℕ) (b : Bool) (found : Option Window) (own : Tree) → m ≢ n → window_at m (mapped_as n b found own) ≡ window_at m own
 mapped_other m n b None own differ = refl
 mapped_other m n b (Some w) own differ = changed_other m n w.place b own.windows differ
 
-placed_other : (m n : ℕ) (place : Rect) (found : Option Window) (own : Own) → m ≢ n → window_at m (placed_at n place found own) ≡ window_at m own
+placed_other : (m n : ℕ) (place : Rect) (found : Option Window) (own : Tree) → m ≢ n → window_at m (placed_at n place found own) ≡ window_at m own
 placed_other m n place None own differ = refl
 placed_other m n place (Some w) own differ = changed_other m n place w.mapped own.windows differ
 
@@ -79,7 +79,7 @@ same_rect a b same = by (a.x == b.x) (a.y == b.y) (a.width == b.width) (a.height
     by true true false h ex ey ew eh all = absurd (cc)
     by true true true false ex ey ew eh all = absurd (cc)
 
-one_read : (own : Own) (shape : Shape) (place : Option Rect) → IsRead own shape → IsRead (with_changes (changes_at shape place) own) (laid shape place)
+one_read : (own : Tree) (shape : Shape) (place : Option Rect) → IsRead own shape → IsRead (with_changes (changes_at shape place) own) (laid shape place)
 unfolding with_changes
 one_read own shape None read = by shape.mapped refl
   where
@@ -97,7 +97,7 @@ one_read own shape (Some rect) read = by (is_same_rect shape.place rect) shape.m
         let placed : Window = with_place rect read.window.mapped read.window in
         record { window = with_place placed.place true placed; there = mapped_same shape.number true (with_rect shape.number rect own) placed (placed_same shape.number rect own read.window read.there); place = refl; mapped = refl }
 
-one_other : (m : ℕ) (own : Own) (shape : Shape) (place : Option Rect) → m ≢ shape.number → window_at m (with_changes (changes_at shape place) own) ≡ window_at m own
+one_other : (m : ℕ) (own : Tree) (shape : Shape) (place : Option Rect) → m ≢ shape.number → window_at m (with_changes (changes_at shape place) own) ≡ window_at m own
 unfolding with_changes
 one_other m own shape None differ = by shape.mapped
   where
@@ -116,12 +116,12 @@ one_other m own shape (Some rect) differ = by (is_same_rect shape.place rect) sh
 
 -- ── the changes of all ──
 
-changes_behind : (one other : List PlaceChange) (own : Own) → with_changes (one ++ other) own ≡ with_changes other (with_changes one own)
+changes_behind : (one other : List PlaceChange) (own : Tree) → with_changes (one ++ other) own ≡ with_changes other (with_changes one own)
 unfolding with_changes
 changes_behind [] other own = refl
 changes_behind (change ∷ one) other own = changes_behind one other (with_changed change own)
 
-others_stay : (m : ℕ) (shapes : List Shape) (places : List (Option Rect)) (own : Own) → IsOfNone m shapes → window_at m (with_changes (changes_of shapes places) own) ≡ window_at m own
+others_stay : (m : ℕ) (shapes : List Shape) (places : List (Option Rect)) (own : Tree) → IsOfNone m shapes → window_at m (with_changes (changes_of shapes places) own) ≡ window_at m own
 unfolding with_changes changes_of IsOfNone
 others_stay m [] places own none = refl
 others_stay m (shape ∷ shapes) [] own none = refl
@@ -131,21 +131,21 @@ others_stay m (shape ∷ shapes) (place ∷ places) own none =
     ∙ one_other m own shape place (λ same. none.0 (sym same))
 
 -- what is read stays read where the window stays
-still_read : (own new : Own) (shape : Shape) → window_at shape.number new ≡ window_at shape.number own → IsRead own shape → IsRead new shape
+still_read : (own new : Tree) (shape : Shape) → window_at shape.number new ≡ window_at shape.number own → IsRead own shape → IsRead new shape
 still_read own new shape same read = record { window = read.window; there = same ∙ read.there; place = read.place; mapped = read.mapped }
 
 number_laid : (shape : Shape) (place : Option Rect) → (laid shape place).number ≡ shape.number
 number_laid shape None = refl
 number_laid shape (Some rect) = refl
 
-rest_read : (first : Shape) (place : Option Rect) (shapes : List Shape) (own : Own) → IsOfNone first.number shapes → AllRead own shapes → AllRead (with_changes (changes_at first place) own) shapes
+rest_read : (first : Shape) (place : Option Rect) (shapes : List Shape) (own : Tree) → IsOfNone first.number shapes → AllRead own shapes → AllRead (with_changes (changes_at first place) own) shapes
 unfolding AllRead IsOfNone
 rest_read first place [] own none read = tt
 rest_read first place (shape ∷ shapes) own none read =
     (still_read own (with_changes (changes_at first place) own) shape (one_other shape.number own first place none.0) read.0, rest_read first place shapes own none.1 read.1)
 
-pub all_laid : (own : Own) (shapes : List Shape) (places : List (Option Rect)) → AllRead own shapes → AreApart shapes → AllRead (with_changes (changes_of shapes places) own) (laid_out shapes places)
-unfolding with_changes changes_of laid_out AllRead AreApart
+pub all_laid : (own : Tree) (shapes : List Shape) (places : List (Option Rect)) → AllRead own shapes → AreApart shapes → AllRead (with_changes (changes_of shapes places) own) (laid_out_shapes shapes places)
+unfolding with_changes changes_of laid_out_shapes AllRead AreApart
 all_laid own [] places read apart = tt
 all_laid own (shape ∷ shapes) [] read apart = read
 all_laid own (shape ∷ shapes) (place ∷ places) read apart =
@@ -155,5 +155,5 @@ all_laid own (shape ∷ shapes) (place ∷ places) read apart =
     still_read first all (laid shape place)
     (ap (λ n. window_at n all) (number_laid shape place) ∙ others_stay shape.number shapes places first apart.0 ∙ ap (λ n. window_at n first) (sym (number_laid shape place)))
     (one_read own shape place read.0) in
-    subst (λ new. AllRead new (laid shape place ∷ laid_out shapes places)) (sym (changes_behind (changes_at shape place) (changes_of shapes places) own))
+    subst (λ new. AllRead new (laid shape place ∷ laid_out_shapes shapes places)) (sym (changes_behind (changes_at shape place) (changes_of shapes places) own))
     (here, all_laid first shapes places (rest_read shape place shapes own apart.0 read.1) apart.1)

@@ -10,7 +10,7 @@ use Rattle.tk_packer.specs.Changes.{changes_of}
 use Rattle.tk_packer.specs.declared.shape.Shape.{Shape}
 use Rattle.tk_packer.specs.Layout.{layout}
 use Rattle.tk_screen.specs.Layout.{changes_due, size_of}
-use Rattle.tk_screen.specs.Own.{Own}
+use Rattle.tk_screen.specs.Own.{Windowing}
 use Rattle.tk_screen.specs.Shapes.{shape_at, shape_by, shape_of, shapes, pre_order, variable_text}
 use Rattle.tk_screen.specs.Widgets.{widget_at}
 use Rattle.tk_tree.specs.declared.window.Window.{Window}
@@ -46,7 +46,7 @@ size_is now size same = by (now.0 == size.0) (now.1 == size.1) refl refl same
     by false h ew eh all = absurd (cc)
     by true false ew eh all = absurd (cc)
 
-module _ (own : Own) (before now : Store) where
+module _ (own : Windowing) (before now : Store) where
   abbrev size_in : Store → Widget → ℕ × ℕ
   size_in store widget = requested widget (variable_text widget store)
 

@@ -4,11 +4,11 @@ use Rattle.std.proofs.lemmas.Bool.Decides.{eqb_tells}
 use Rattle.std.specs.List.{filter_map}
 use Rattle.std.specs.Prelude.{Result, Ok, Err, OnOk, OnErr}
 use Rattle.tcl_vars.specs.Store.{Store}
-use Rattle.tk_tree.specs.Own.{IsSound, Own as Tree}
+use Rattle.tk_tree.specs.Own.{IsSound, Tree}
 use Rattle.tk_screen.specs.Placing.{with_changes}
 use Rattle.tk_screen.specs.declared.screen.Screen.{Screen}
-use Rattle.tk_screen.specs.Layout.{changes_due, laid_out}
-use Rattle.tk_screen.specs.Own.{Own, own_of, LeavesOthers}
+use Rattle.tk_screen.specs.Layout.{changes_due, laid_out_windowing}
+use Rattle.tk_screen.specs.Own.{Windowing, own_of, LeavesOthers}
 use Rattle.tk_screen.specs.declared.marks.Mark.{Mark}
 use Rattle.tk_screen.specs.declared.marks.Marks.{Marks}
 use Rattle.tk_screen.specs.Marks.{mark_of, LeavesOtherMarks}
@@ -35,16 +35,16 @@ pub kept : (slot : ℕ) (old new : Marks) (before now : Screen) → AllSettled o
 kept slot old new before now settled gone marks parts = all_settled slot old new before now settled marks parts (unmarked slot new now gone)
 
 -- ── an application that is laid out is marked ──
-reads_laid : (own : Own) (store : Store) → reads (laid_out own store) store ≡ reads own store
-unfolding reads laid_out
+reads_laid : (own : Windowing) (store : Store) → reads (laid_out_windowing own store) store ≡ reads own store
+unfolding reads laid_out_windowing
 reads_laid own store =
     let new : Tree = with_changes (changes_due own store) own.tree in
     ap (λ (order : List ℕ). filter_map (read_at own store) order) (same_order own.tree new (plain_all (changes_due own store) own.tree))
 
-settled_by : (own : Own) (store : Store) (mark : Mark) → IsSound own.tree → mark.reads.items ≡ reads own store → IsSettled mark (laid_out own store)
-unfolding laid_out
+settled_by : (own : Windowing) (store : Store) (mark : Mark) → IsSound own.tree → mark.reads.items ≡ reads own store → IsSettled mark (laid_out_windowing own store)
+unfolding laid_out_windowing
 settled_by own store mark sound is now so =
-    let after : Own = laid_out own store in
+    let after : Windowing = laid_out_windowing own store in
     sym (reads_decide after store now (ap (hold own.widgets now) (reads_laid own store ∙ sym is) ∙ so)) ∙ laid_twice own store sound
 
 mark_is : (mark put : Mark) (found : Option Mark) → found ≡ Some put → found ≡ Some mark → put ≡ mark
@@ -71,13 +71,13 @@ module _ (slot : ℕ) (old new : Marks) (screen : Screen) (settled : AllSettled 
 pub laid_marked : {T E : Type 0} (result : Result T E) (slot : ℕ) (old gone new : Marks) (before now : Screen) (store : Store) (mark : Mark)
     → AllSettled old before → mark_of slot gone ≡ None → LeavesOtherMarks slot old gone → LeavesOthers slot before now → LeavesOtherMarks slot gone new
     → OnOk result (mark_of slot new ≡ Some mark) → OnErr result (mark_of slot new ≡ mark_of slot gone)
-    → IsSound (own_of slot before).tree → own_of slot now ≡ laid_out (own_of slot before) store → mark.reads.items ≡ reads (own_of slot before) store
+    → IsSound (own_of slot before).tree → own_of slot now ≡ laid_out_windowing (own_of slot before) store → mark.reads.items ≡ reads (own_of slot before) store
     → AllSettled new now
 laid_marked result slot old gone new before now store mark settled none parted parts others put same sound laid is =
     put_or_not slot gone new now (kept slot old gone before now settled none parted parts) others result mark put same
     (subst (IsSettled mark) (sym laid) (settled_by (own_of slot before) store mark sound is))
 
 -- ── a layout that changes nothing ──
-pub nothing_laid : (own : Own) (store : Store) → changes_due own store ≡ [] → laid_out own store ≡ own
-unfolding laid_out with_changes
+pub nothing_laid : (own : Windowing) (store : Store) → changes_due own store ≡ [] → laid_out_windowing own store ≡ own
+unfolding laid_out_windowing with_changes
 nothing_laid own store laid = ap (λ changes. record own { tree = with_changes changes own.tree }) laid

@@ -9,14 +9,14 @@ use Rattle.tk_packer.specs.Changes.{changes_at, changes_of, is_same_rect}
 use Rattle.tk_packer.specs.declared.changes.PlaceChange.{PlaceChange}
 use Rattle.tk_packer.specs.declared.changes.PlaceChange.TheVariants.{Unmap, Configure, Map}
 use Rattle.tk_packer.specs.declared.shape.Shape.{Shape}
-use Rattle.tk_packer.specs.Packs.{Own as Packs}
+use Rattle.tk_packer.specs.Packs.{Packing}
 use Rattle.tk_screen.specs.Placing.{AreThere, with_changes}
 use Rattle.tk_tree.specs.declared.window.Window.{Window}
-use Rattle.tk_tree.specs.Own.{Own as Tree, window_at}
+use Rattle.tk_tree.specs.Own.{Tree, window_at}
 use Rattle.tk_tree.proofs.Lists.{find_passes, some_same}
 use Rattle.tk_widgets.specs.declared.widget.Widget.{Widget}
-use Rattle.tk_screen.specs.Layout.{changes_due, laid_out}
-use Rattle.tk_screen.specs.Own.{Own}
+use Rattle.tk_screen.specs.Layout.{changes_due, laid_out_windowing}
+use Rattle.tk_screen.specs.Own.{Windowing}
 use Rattle.tk_screen.specs.Shapes.{shape_at, shape_by, shape_of, shapes, pre_order}
 use Rattle.tk_screen.specs.Widgets.{widget_at}
 
@@ -56,7 +56,7 @@ module _ (tree : Tree) where
   changes_there (shape ∷ all) [] there = tt
   changes_there (shape ∷ all) (place ∷ places) there = both_there _ _ (one_there shape place there.0) (changes_there all places there.1)
 
-  shape_there : (packs : Packs) (store : Store) (n : ℕ) (found : Option Window) (widget : Option Widget) (shape : Shape) → window_at n tree ≡ found → shape_by packs store found widget ≡ Some shape → IsSome (window_at shape.number tree)
+  shape_there : (packs : Packing) (store : Store) (n : ℕ) (found : Option Window) (widget : Option Widget) (shape : Shape) → window_at n tree ≡ found → shape_by packs store found widget ≡ Some shape → IsSome (window_at shape.number tree)
   unfolding shape_of
   shape_there packs store n None widget shape is told = absurd (cc)
   shape_there packs store n (Some window) None shape is told = absurd (cc)
@@ -65,7 +65,7 @@ module _ (tree : Tree) where
       let same : shape.number ≡ n = its_number ∙ eqb-true window.number n (find_passes (λ w. w.number == n) window tree.windows is) in
       ap (λ m. is_some (window_at m tree)) same ∙ ap is_some is
 
-module _ (own : Own) (store : Store) where
+module _ (own : Windowing) (store : Store) where
   one_more : (n : ℕ) (told : Option Shape) (rest : List Shape) → shape_at own store n ≡ told → AllThere own.tree rest → AllThere own.tree (cons_option told rest)
   one_more n None rest is there = there
   one_more n (Some shape) rest is there = (shape_there own.tree own.packs store n (window_at n own.tree) (widget_at n own.widgets) shape refl is, there)
@@ -80,14 +80,14 @@ module _ (own : Own) (store : Store) where
   due_there places = changes_there own.tree (shapes own store) places (all_there (pre_order own.tree))
 
 -- ── a layout written ──
-pub there_by : (changes items : List PlaceChange) (own : Own) (store : Store) (tree : Tree) → changes ≡ items → items ≡ changes_due own store → tree ≡ own.tree → AreThere changes tree
+pub there_by : (changes items : List PlaceChange) (own : Windowing) (store : Store) (tree : Tree) → changes ≡ items → items ≡ changes_due own store → tree ≡ own.tree → AreThere changes tree
 unfolding changes_due
 there_by changes items own store tree same is tree_is =
     subst (λ t. AreThere changes t) (sym tree_is) (subst (λ cs. AreThere cs own.tree) (sym (same ∙ is)) (due_there own store _))
 
-pub laid_by : (own mid : Own) (tree : Tree) (changes : List PlaceChange) (store : Store) → mid ≡ own → changes ≡ changes_due own store → tree ≡ with_changes changes mid.tree → record mid { tree = tree } ≡ laid_out own store
-unfolding laid_out
+pub laid_by : (own mid : Windowing) (tree : Tree) (changes : List PlaceChange) (store : Store) → mid ≡ own → changes ≡ changes_due own store → tree ≡ with_changes changes mid.tree → record mid { tree = tree } ≡ laid_out_windowing own store
+unfolding laid_out_windowing
 laid_by own mid tree changes store same is tree_is =
-    let put : Own → Tree → Own = λ o t. record o { tree = t } in
-    let change : Own → Own = λ o. put o (with_changes (changes_due own store) o.tree) in
+    let put : Windowing → Tree → Windowing = λ o t. record o { tree = t } in
+    let change : Windowing → Windowing = λ o. put o (with_changes (changes_due own store) o.tree) in
     ap (put mid) (tree_is ∙ ap (λ cs. with_changes cs mid.tree) is) ∙ ap change same

@@ -8,9 +8,9 @@ use Rattle.std.proofs.lemmas.Bool.{eqb-true}
 use Rattle.tcl_vars.specs.Store.{Store}
 use Rattle.tk_base.specs.Bag.{changed_at, numbered}
 use Rattle.tk_base.specs.declared.rect.Rect.{Rect}
-use Rattle.tk_packer.specs.Changes.{changes_of, laid_out as laid_out_shapes, unlaid}
+use Rattle.tk_packer.specs.Changes.{changes_of, laid_out_shapes, unlaid}
 use Rattle.tk_packer.specs.Layout.{layout}
-use Rattle.tk_packer.specs.Packs.{Own as Packs}
+use Rattle.tk_packer.specs.Packs.{Packing}
 use Rattle.tk_packer.specs.declared.changes.PlaceChange.{PlaceChange}
 use Rattle.tk_packer.specs.declared.changes.PlaceChange.TheVariants.{Unmap, Configure, Map}
 use Rattle.tk_packer.specs.declared.shape.Shape.{Shape}
@@ -18,12 +18,12 @@ use Rattle.tk_packer.proofs.Alike.{laid_out_twice}
 use Rattle.tk_tree.proofs.Lists.{find_passes, some_same}
 use Rattle.tk_tree.specs.Change.{with_place}
 use Rattle.tk_tree.specs.Orders.{below, subtree}
-use Rattle.tk_tree.specs.Own.{IsSound, Own as Tree, at_path, is_child_of, window_at}
+use Rattle.tk_tree.specs.Own.{IsSound, Tree, at_path, is_child_of, window_at}
 use Rattle.tk_tree.specs.Window.{number_of}
 use Rattle.tk_tree.specs.declared.window.Window.{Window}
 use Rattle.tk_widgets.specs.declared.widget.Widget.{Widget}
-use Rattle.tk_screen.specs.Layout.{changes_due, laid_out, size_of}
-use Rattle.tk_screen.specs.Own.{Own}
+use Rattle.tk_screen.specs.Layout.{changes_due, laid_out_windowing, size_of}
+use Rattle.tk_screen.specs.Own.{Windowing}
 use Rattle.tk_screen.specs.Placing.{mapped_as, placed_at, with_changed, with_changes}
 use Rattle.tk_screen.specs.Reading.{AllRead, AreApart, IsOfNone, IsRead}
 use Rattle.tk_screen.specs.Shapes.{pre_order, shape_at, shape_by, shape_of, shapes}
@@ -121,7 +121,7 @@ module _ (old new : Tree) (alike : map plain new.windows ≡ map plain old.windo
 
 -- ── shapes ──
 
-module _ (packs : Packs) (store : Store) where
+module _ (packs : Packing) (store : Store) where
   plain_shape : (window : Option Window) (widget : Option Widget) → option_map unlaid (shape_by packs store (option_map plain window) widget) ≡ option_map unlaid (shape_by packs store window widget)
   unfolding shape_of
   plain_shape None widget = refl
@@ -167,7 +167,7 @@ same_read tree (x ∷ ones) (y ∷ others) same one other = first ∙ ap (λ ys.
     first : (x ∷ ones) ≡ (y ∷ ones)
     first = λ i. record (alike i) { place = place i; mapped = mapped i } ∷ ones
 
-module _ (own : Own) (store : Store) where
+module _ (own : Windowing) (store : Store) where
   -- the window of a shape that was read, which has the shape's number
   read_by : (n : ℕ) (window : Option Window) (widget : Option Widget) → window_at n own.tree ≡ window → (shape : Shape) → shape_by own.packs store window widget ≡ Some shape → (shape.number ≡ n) × IsRead own.tree shape
   unfolding shape_of
@@ -232,21 +232,21 @@ laid_unlaid (shape ∷ ones) [] = refl
 laid_unlaid (shape ∷ ones) (None ∷ places) = ap (λ ss. unlaid shape ∷ ss) (laid_unlaid ones places)
 laid_unlaid (shape ∷ ones) (Some rect ∷ places) = ap (λ ss. unlaid shape ∷ ss) (laid_unlaid ones places)
 
-module _ (own : Own) (store : Store) (sound : IsSound own.tree) where
+module _ (own : Windowing) (store : Store) (sound : IsSound own.tree) where
   before : List Shape
   before = shapes own store
 
   places : List (Option Rect)
   places = layout (size_of own) own.packs.packs before
 
-  after : Own
-  after = laid_out own store
+  after : Windowing
+  after = laid_out_windowing own store
 
   -- the windows as the layout sees them then
   seen_after : shapes (record own { tree = with_changes (changes_of before places) own.tree }) store ≡ laid_out_shapes before places
   unfolding before places shapes
   seen_after =
-      let new : Own = record own { tree = with_changes (changes_of before places) own.tree } in
+      let new : Windowing = record own { tree = with_changes (changes_of before places) own.tree } in
       let alike = plain_all (changes_of before places) own.tree in
       same_read new.tree (shapes new store) (laid_out_shapes before places)
       (ap (λ ns. map unlaid (filter_map (shape_at new store) ns)) (same_order own.tree new.tree alike)
@@ -255,7 +255,7 @@ module _ (own : Own) (store : Store) (sound : IsSound own.tree) where
       (read new store)
       (all_laid own.tree before places (read own store) (apart own store sound))
 
-  pub laid_twice : changes_due (laid_out own store) store ≡ []
-  unfolding changes_due laid_out before places
+  pub laid_twice : changes_due (laid_out_windowing own store) store ≡ []
+  unfolding changes_due laid_out_windowing before places
   laid_twice =
       ap (λ (ss : List Shape). changes_of ss (layout (size_of own) own.packs.packs ss)) seen_after ∙ laid_out_twice (size_of own) own.packs.packs before

@@ -11,7 +11,7 @@ use Rattle.tk_widgets.specs.declared.outcome.VariableWrite.{VariableWrite}
 use Rattle.tk_widgets.specs.declared.outcome.WidgetAct.{WidgetAct}
 use Rattle.tk_widgets.specs.declared.outcome.WidgetAct.TheVariants.{Fault}
 use Rattle.tk_widgets.specs.Commands.{variable_write}
-use Rattle.tk_screen.specs.Own.{Own}
+use Rattle.tk_screen.specs.Own.{Windowing}
 use Rattle.tk_screen.specs.Widgets.{made_at, widget_at}
 
 -- ---- the variable
@@ -42,21 +42,21 @@ wrote (Some write) store = wrote_one write store
 
 -- the application's part and the variables after a command on a widget, and what it told; nothing where there is no widget
 pub record Changed : Type 0 where
-  pub own : Own
+  pub own : Windowing
   pub store : Store
   pub act : Option WidgetAct
 
-abbrev pub stays : Own → Store → Option WidgetAct → Changed
+abbrev pub stays : Windowing → Store → Option WidgetAct → Changed
 stays own store act = record { own = own; store = store; act = act }
 
 -- the change is made once the variable is set; where that can't be set, its error is told, and nothing is changed
-abbrev pub changed_after : ℕ → WidgetChange → Own → Store → Result Store (List ℕ) → Changed
+abbrev pub changed_after : ℕ → WidgetChange → Windowing → Store → Result Store (List ℕ) → Changed
 changed_after number change own store (Ok new) =
     (let told = made_at number change own.widgets in record { own = record own { widgets = told.widgets }; store = new; act = told.act })
 changed_after number change own store (Err text) = stays own store (Some (Fault text))
 
 -- a change that the widget of the window with a number was asked for
-unfoldable pub changed : ℕ → WidgetChange → Own → Store → Changed
+unfoldable pub changed : ℕ → WidgetChange → Windowing → Store → Changed
 changed number change own store =
     option_map_or (λ widget. changed_after number change own store (wrote (variable_write change widget) store)) (widget_at number own.widgets)
     (stays own store None)

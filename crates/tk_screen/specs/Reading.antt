@@ -1,17 +1,17 @@
 -- Steps. Shapes that were read from an application's windows.
 use Rattle.std.specs.Prelude.{◌≡◌, ◌≢◌, ℕ, List, [], ◌∷◌, Some}
 use Rattle.tk_packer.specs.declared.shape.Shape.{Shape}
-use Rattle.tk_tree.specs.Own.{Own, window_at}
+use Rattle.tk_tree.specs.Own.{Tree, window_at}
 use Rattle.tk_tree.specs.declared.window.Window.{Window}
 
 -- the window of a shape's number is there, and lies and is mapped as the shape says
-pub record IsRead (own : Own) (shape : Shape) : Type 0 where
+pub record IsRead (own : Tree) (shape : Shape) : Type 0 where
   pub window : Window
   pub there : window_at shape.number own ≡ Some window
   pub place : window.place ≡ shape.place
   pub mapped : window.mapped ≡ shape.mapped
 
-unfoldable pub AllRead : Own → List Shape → Type 0
+unfoldable pub AllRead : Tree → List Shape → Type 0
 AllRead own [] = Unit {0}
 AllRead own (shape ∷ shapes) = IsRead own shape × AllRead own shapes
 

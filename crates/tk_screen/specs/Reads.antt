@@ -5,7 +5,7 @@ use Rattle.std.specs.Result.{result_ok}
 use Rattle.std.specs.Str.{bytes_eq}
 use Rattle.tcl_vars.specs.Store.{Store, variable_in}
 use Rattle.tk_screen.specs.declared.reads.TextRead.{TextRead}
-use Rattle.tk_screen.specs.Own.{Own}
+use Rattle.tk_screen.specs.Own.{Windowing}
 use Rattle.tk_screen.specs.Shapes.{pre_order, variable_text}
 use Rattle.tk_screen.specs.Widgets.{OwnWidgets, widget_at}
 use Rattle.tk_widgets.specs.Commands.{variable_of}
@@ -26,11 +26,11 @@ abbrev pub read_of : Store → ℕ → Widget → Option TextRead
 read_of store number widget = option_map (read_named store number widget) (variable_of widget)
 
 -- the one that the widget of the window with a number shows
-abbrev pub read_at : Own → Store → ℕ → Option TextRead
+abbrev pub read_at : Windowing → Store → ℕ → Option TextRead
 read_at own store number = option_and_then (read_of store number) (widget_at number own.widgets)
 
 -- those of all windows
-unfoldable pub reads : Own → Store → List TextRead
+unfoldable pub reads : Windowing → Store → List TextRead
 reads own store = filter_map (read_at own store) (pre_order own.tree)
 
 abbrev pub same_text : Option (List ℕ) → Option (List ℕ) → Bool

@@ -9,15 +9,15 @@ use Rattle.tk_base.specs.declared.kind.Kind.TheVariants as kind
 use Rattle.tk_packer.specs.declared.shape.Shape.{Shape}
 use Rattle.tk_options.specs.declared.option.OptionName.TheVariants.{BorderWidth}
 use Rattle.tk_options.specs.Options.{amount_of}
-use Rattle.tk_packer.specs.Packs.{Own as Packs, propagates_in}
+use Rattle.tk_packer.specs.Packs.{Packing, propagates_in}
 use Rattle.tk_tree.specs.declared.window.Window.{Window}
 use Rattle.tk_tree.specs.Orders.{subtree}
-use Rattle.tk_tree.specs.Own.{Own as Tree, at_path, window_at}
+use Rattle.tk_tree.specs.Own.{Tree, at_path, window_at}
 use Rattle.tk_widgets.specs.Classes.{value_told}
 use Rattle.tk_widgets.specs.Commands.{variable_of}
 use Rattle.tk_widgets.specs.declared.widget.Widget.{Widget}
 use Rattle.tk_widgets.specs.Sizes.{requested}
-use Rattle.tk_screen.specs.Own.{Own}
+use Rattle.tk_screen.specs.Own.{Windowing}
 use Rattle.tk_screen.specs.Widgets.{widget_at}
 
 -- the text of the global variable that `-textvariable` of a widget names, where there is one that can be read
@@ -33,7 +33,7 @@ is_frame kind.Entry = false
 is_frame kind.Listbox = false
 
 -- a window as the layout sees it: its widget asks for a size with the variable's text of the moment
-unfoldable pub shape_of : Packs → Store → Window → Widget → Shape
+unfoldable pub shape_of : Packing → Store → Window → Widget → Shape
 shape_of packs store window widget = record {
   number = window.number;
   width = (requested widget (variable_text widget store)).0;
@@ -45,12 +45,12 @@ shape_of packs store window widget = record {
 }
 
 -- the window with a number, if it is there and has a widget
-abbrev pub shape_by : Packs → Store → Option Window → Option Widget → Option Shape
+abbrev pub shape_by : Packing → Store → Option Window → Option Widget → Option Shape
 shape_by packs store None widget = None
 shape_by packs store (Some window) None = None
 shape_by packs store (Some window) (Some widget) = Some (shape_of packs store window widget)
 
-abbrev pub shape_at : Own → Store → ℕ → Option Shape
+abbrev pub shape_at : Windowing → Store → ℕ → Option Shape
 shape_at own store number = shape_by own.packs store (window_at number own.tree) (widget_at number own.widgets)
 
 -- the numbers of all windows, each before its children, and children in the order of creation
@@ -58,9 +58,9 @@ unfoldable pub pre_order : Tree → List ℕ
 pre_order tree = option_map_or (λ main. subtree main.number tree) (at_path (codes ".") tree) []
 
 -- all windows as the layout sees them, in that order
-unfoldable pub shapes : Own → Store → List Shape
+unfoldable pub shapes : Windowing → Store → List Shape
 shapes own store = filter_map (shape_at own store) (pre_order own.tree)
 
 -- what the window with a number shows: the text of a label, a button or an entry, the list of a listbox's items; nothing for a frame
-abbrev pub value_of : Own → Store → ℕ → Option (List ℕ)
+abbrev pub value_of : Windowing → Store → ℕ → Option (List ℕ)
 value_of own store number = option_and_then (λ widget. value_told widget (variable_text widget store)) (widget_at number own.widgets)

@@ -4,7 +4,7 @@ use Rattle.std.specs.Option.{option_map_or}
 use Rattle.std.specs.Str.{bytes_eq}
 use Rattle.tcl_vars.specs.Store.{Store}
 use Rattle.tk_base.specs.Kind.{class_of}
-use Rattle.tk_screen.specs.Own.{Own}
+use Rattle.tk_screen.specs.Own.{Windowing}
 use Rattle.tk_screen.specs.Shapes.{pre_order, value_of}
 use Rattle.tk_screen.specs.Fields.{escaped, escaped_path, field, flag}
 use Rattle.tk_tree.specs.declared.window.Window.{Window}
@@ -25,15 +25,15 @@ place_fields window =
     field window.place.x ++ field window.place.y ++ field window.place.width ++ field window.place.height ++ field (flag window.mapped)
 
 -- `win PATH CLASS X Y W H MAPPED VALUE`
-abbrev pub window_line : Own → Store → Window → List ℕ
+abbrev pub window_line : Windowing → Store → Window → List ℕ
 window_line own store window =
     codes "win " ++ escaped_path window.path ++ codes " " ++ class_name window ++ place_fields window
     ++ value_field (value_of own store window.number) ++ codes "\n"
 
 -- that of the window with a number
-abbrev pub line_at : Own → Store → ℕ → List ℕ
+abbrev pub line_at : Windowing → Store → ℕ → List ℕ
 line_at own store number = option_map_or (window_line own store) (window_at number own.tree) []
 
 -- all windows, each before its children, and children in the order of creation
-abbrev pub tree_lines : Own → Store → List ℕ
+abbrev pub tree_lines : Windowing → Store → List ℕ
 tree_lines own store = flat_map (line_at own store) (pre_order own.tree)

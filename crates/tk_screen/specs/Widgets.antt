@@ -50,6 +50,8 @@ widgets_of owner table = option_map_or (λ row. row.entries) (get nat_eq table.r
 abbrev pub LeavesOtherWidgets : ℕ → Widgets → Widgets → Type 0
 LeavesOtherWidgets owner old new = (other : ℕ) → other ≢ owner → widgets_of other new ≡ widgets_of other old
 
+-- ── steps ──
+
 -- one more widget of an application can be put without memory
 abbrev pub HasRoom : ℕ → Widgets → Type 0
 HasRoom owner table = IsSomeAnd (get nat_eq table.rows owner) (λ row. 0 < spare row)

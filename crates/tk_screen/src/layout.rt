@@ -3,7 +3,7 @@ ghost use Rattle.std.specs.Prelude.{◌≡◌, ℕ, IfOk, IsSome, OnOk, OnErr, n
 ghost use Rattle.std.specs.HashMap.{get};
 ghost use Rattle.tk_packer.specs.Changes.{changes_of};
 ghost use Rattle.tk_packer.specs.Layout.{layout};
-ghost use Rattle.tk_screen.specs.Layout.{changes_due, laid_out, size_asked, size_of};
+ghost use Rattle.tk_screen.specs.Layout.{changes_due, laid_out_windowing, size_asked, size_of};
 ghost use Rattle.tk_screen.specs.Own.{own_of, LeavesOthers};
 ghost use Rattle.tk_screen.specs.Reads.{reads};
 
@@ -48,7 +48,7 @@ pub struct Laid {
 /// Lays out the windows of an application with the texts that variables have now, and answers what that changes, in the order of the windows,
 /// each before its children: for each that is changed Unmap, Configure and Map, of these what applies. Where memory is refused no window is
 /// changed.
-#[tactic(auto, unfolding(crate::specs::Layout::changes_due, crate::specs::Layout::laid_out))]
+#[tactic(auto, unfolding(crate::specs::Layout::changes_due, crate::specs::Layout::laid_out_windowing))]
 pub fn lay_out(
     alloc: Global,
     screen: &mut Screen,
@@ -57,7 +57,7 @@ pub fn lay_out(
 ) -> Result<Laid, AllocError>
     ensures changes { IfOk result (λ laid. laid.changes.items ≡ changes_due (own_of slot screen.old) scopes.now) }
     ensures reads { IfOk result (λ laid. laid.reads.items ≡ reads (own_of slot screen.old) scopes.now) }
-    ensures own { OnOk result (own_of slot screen.new ≡ laid_out (own_of slot screen.old) scopes.now) }
+    ensures own { OnOk result (own_of slot screen.new ≡ laid_out_windowing (own_of slot screen.old) scopes.now) }
     ensures others { LeavesOthers slot screen.old screen.new }
     ensures err { OnErr result (own_of slot screen.new ≡ own_of slot screen.old) }
 {

@@ -1,6 +1,6 @@
 ghost use Rattle.std.specs.Prelude.{◌≡◌, ℕ, [], true, IfOk, IsSome, OnErr, OnOk};
 ghost use Rattle.tk_screen.specs.Settled.{AllSettled};
-ghost use Rattle.tk_screen.specs.Layout.{changes_due, laid_out};
+ghost use Rattle.tk_screen.specs.Layout.{changes_due, laid_out_windowing};
 ghost use Rattle.tk_screen.specs.Own.{own_of, nothing, with_size, without, LeavesOthers};
 ghost use Rattle.tk_tree.specs.Own.{window_at, child_numbers};
 
@@ -86,7 +86,7 @@ impl MarkedScreen {
         scopes: &Scopes,
     ) -> Result<Vec<PlaceChange>, AllocError>
         ensures changes { IfOk result (λ changes. changes.items ≡ changes_due (own_of slot self.old) scopes.now) }
-        ensures own { OnOk result (own_of slot self.new ≡ laid_out (own_of slot self.old) scopes.now) }
+        ensures own { OnOk result (own_of slot self.new ≡ laid_out_windowing (own_of slot self.old) scopes.now) }
         ensures others { LeavesOthers slot self.old self.new }
         ensures err { OnErr result (own_of slot self.new ≡ own_of slot self.old) }
     {
@@ -114,7 +114,7 @@ impl MarkedScreen {
         scopes: &Scopes,
     ) -> Result<Vec<PlaceChange>, AllocError>
         ensures changes { IfOk result (λ changes. changes.items ≡ changes_due (own_of slot self.old) scopes.now) }
-        ensures own { OnOk result (own_of slot self.new ≡ laid_out (own_of slot self.old) scopes.now) }
+        ensures own { OnOk result (own_of slot self.new ≡ laid_out_windowing (own_of slot self.old) scopes.now) }
         ensures others { LeavesOthers slot self.old self.new }
         ensures err { OnErr result (own_of slot self.new ≡ own_of slot self.old) }
     {

@@ -6,7 +6,7 @@ ghost use Rattle.tk_screen.specs.Timers.{entry_line, kind_fields, name_field, ti
 
 use crate::fields::{push_escaped, push_field, push_number};
 use std::alloc::AllocError;
-use tk_after::{Entry, Timers};
+use tk_after::{Timers, WaitingScript};
 
 /// Adds the name of a timer or an idle script after a blank.
 fn push_name(out: &mut Vec<u8>, id: u64) -> Result<(), AllocError>
@@ -34,7 +34,7 @@ fn push_kind(out: &mut Vec<u8>, due: Option<u64>, id: u64) -> Result<(), AllocEr
 }
 
 /// Adds the line of a timer or an idle script.
-fn push_entry(out: &mut Vec<u8>, entry: &Entry) -> Result<(), AllocError>
+fn push_entry(out: &mut Vec<u8>, entry: &WaitingScript) -> Result<(), AllocError>
     ensures { OnOk result (out.new.items ≡ out.old.items ++ entry_line entry.now) }
 {
     push_kind(out, entry.due, entry.id)?;
@@ -44,7 +44,7 @@ fn push_entry(out: &mut Vec<u8>, entry: &Entry) -> Result<(), AllocError>
 }
 
 /// Adds the line of what is listed, if anything.
-fn push_listed(out: &mut Vec<u8>, entry: Option<&Entry>) -> Result<(), AllocError>
+fn push_listed(out: &mut Vec<u8>, entry: Option<&WaitingScript>) -> Result<(), AllocError>
     ensures { OnOk result (out.new.items ≡ out.old.items ++ option_map_or entry_line (option_copied entry.entry) []) }
 {
     match entry {

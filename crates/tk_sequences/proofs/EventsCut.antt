@@ -11,7 +11,8 @@ use Rattle.tk_sequences.specs.Grammar.IsEvent.{type_alone, type_and_detail, deta
 use Rattle.tk_sequences.specs.Grammar.IsFaultyEvent.{missing, repeated, unknown, behind_alone, uncounted, no_detail as bad_detail, no_key as bad_key, no_button as bad_button, behind_both}
 use Rattle.tk_sequences.specs.Modifiers.{modifier_bit, modifier_named}
 use Rattle.tk_sequences.specs.Patterns.{repetition_named}
-use Rattle.tk_sequences.specs.Reading.{button_named, key_meant, is_single, may_repeat}
+use Rattle.tk_sequences.specs.Reading.{key_meant, may_repeat}
+use Rattle.tk_sequences.specs.Words.{button_named, is_single}
 use Rattle.tk_sequences.specs.Types.{type_named, is_key_type, is_button_type}
 use Rattle.tk_sequences.specs.declared.detail.Detail.{Detail}
 use Rattle.tk_sequences.specs.declared.detail.Detail.TheVariants as details

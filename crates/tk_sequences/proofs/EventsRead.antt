@@ -12,7 +12,8 @@ use Rattle.tk_sequences.specs.Grammar.IsAlone.{a_key as key_alone, a_button as b
 use Rattle.tk_sequences.specs.Grammar.IsEvent.{type_alone, type_and_detail, detail_alone}
 use Rattle.tk_sequences.specs.Grammar.IsFaultyEvent.{missing, repeated, unknown, behind_alone, uncounted, no_detail as bad_detail, no_key as bad_key, no_button as bad_button, behind_both}
 use Rattle.tk_sequences.specs.Modifiers.{modifier_bit}
-use Rattle.tk_sequences.specs.Reading.{Outcome, ◌>>=◌, prefix_named, button_named, key_meant, is_single, key_or_fault, button_or_fault, detail_of, detail_behind, may_repeat, typed, button_or_key, alone, untyped, typed_or_not, headed, with_prefix, pattern_behind}
+use Rattle.tk_sequences.specs.Reading.{Outcome, ◌>>=◌, prefix_named, key_meant, key_or_fault, button_or_fault, detail_of, detail_behind, may_repeat, typed, button_or_key, alone, untyped, typed_or_not, headed, with_prefix, pattern_behind}
+use Rattle.tk_sequences.specs.Words.{button_named, is_single}
 use Rattle.tk_sequences.specs.Types.{type_named, is_key_type, is_button_type}
 use Rattle.tk_sequences.specs.declared.detail.Detail.{Detail}
 use Rattle.tk_sequences.specs.declared.event_type.EventType.{EventType}

@@ -9,7 +9,8 @@ use Rattle.std.proofs.lemmas.List.{take_all, drop_all, drop_more, length-take-le
 use Rattle.std.proofs.lemmas.List.Sums.{prefix_len-le-length, prefix_len-drop_no, prefix_len-drop_all, prefix_len_stops, prefix_len_passes, passes_at_first, fails_before_first, split_at_first}
 use Rattle.std.proofs.lemmas.List.Splits.{slice_split-cons_yes, slice_split_first, slice_split_none}
 use Rattle.std.proofs.lemmas.Str.{IsCharBoundary-before_ascii, IsCharBoundary-end, IsCharBoundary-after_ascii, IsCharBoundary-start}
-use Rattle.tk_sequences.specs.Reading.{fields, is_separator, is_some_text}
+use Rattle.tk_sequences.specs.Reading.{fields}
+use Rattle.tk_sequences.specs.Words.{is_separator, is_some_text}
 
 separator_low : (byte : ℕ) → is_separator byte ≡ true → byte < 128
 separator_low byte is = grind (arith, nat_tests)

@@ -7,7 +7,8 @@ use Rattle.tk_sequences.proofs.KnownWords.{is_inside_word}
 use Rattle.tk_sequences.proofs.WordLemmas.{is_inside}
 use Rattle.tk_sequences.proofs.WrittenLemmas.{both_inside}
 use Rattle.tk_sequences.specs.Grammar.{Each, AreSeparators, IsField, EndsField, AreFields}
-use Rattle.tk_sequences.specs.Reading.{fields, is_separator, is_some_text}
+use Rattle.tk_sequences.specs.Reading.{fields}
+use Rattle.tk_sequences.specs.Words.{is_separator, is_some_text}
 
 one_more : (Has : ℕ → Type 0) (byte : ℕ) (bytes : List ℕ) → Has byte → All Has bytes → (k d : ℕ) → k < length (byte ∷ bytes) → Has (get_or (byte ∷ bytes) k d)
 one_more Has byte bytes first each zero d less = first

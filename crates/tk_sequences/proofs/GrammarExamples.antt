@@ -4,7 +4,8 @@ use Rattle.std.specs.Prelude.{codes}
 use Rattle.tk_base.specs.Names.{key_names}
 use Rattle.tk_sequences.proofs.Grammars.{sequences_read, faults_told}
 use Rattle.tk_sequences.specs.Grammar.{IsSequence, HasFault}
-use Rattle.tk_sequences.specs.Reading.{fields, key_meant, detail_of, headed, pattern_of, plain_pattern, physical, name_in, parsed}
+use Rattle.tk_sequences.specs.Reading.{fields, key_meant, detail_of, headed, pattern_of, plain_pattern, physical, parsed}
+use Rattle.tk_sequences.specs.Words.{name_in}
 use Rattle.tk_sequences.specs.declared.detail.Detail.TheVariants as details
 use Rattle.tk_sequences.specs.declared.event_type.EventType.TheVariants.{Key, Button, Map}
 use Rattle.tk_sequences.specs.declared.fault.SequenceFault.{SequenceFault}

@@ -12,7 +12,8 @@ use Rattle.tk_sequences.specs.Grammar.{IsGap, HasNoClosing, BeginsWith, IsVirtua
 use Rattle.tk_sequences.specs.Laws.{SequencesAreRead, FaultsAreTold, IsOneOrOther, IsOneSequence, IsOneFault, IsNotBoth}
 use Rattle.tk_sequences.proofs.NameLemmas.{name_in_some, name_in_none}
 use Rattle.tk_sequences.specs.Patterns.{count_of}
-use Rattle.tk_sequences.specs.Reading.{Outcome, ◌>>=◌, Between, patterns_from, some_patterns, physical, in_brackets, is_some_text, has_no_closing, is_name, middle, name_in, begins_with_bracket, has_brackets, named_or_physical, parsed}
+use Rattle.tk_sequences.specs.Reading.{Outcome, ◌>>=◌, Between, patterns_from, some_patterns, physical, begins_with_bracket, has_brackets, named_or_physical, parsed}
+use Rattle.tk_sequences.specs.Words.{in_brackets, is_some_text, has_no_closing, is_name, middle, name_in}
 use Rattle.tk_sequences.specs.declared.fault.SequenceFault.{SequenceFault}
 use Rattle.tk_sequences.specs.declared.fault.SequenceFault.TheVariants.{BadSequence}
 use Rattle.tk_sequences.specs.declared.pattern.Pattern.{Pattern}

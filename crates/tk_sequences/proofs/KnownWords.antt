@@ -15,7 +15,8 @@ use Rattle.tk_sequences.specs.Grammar.IsKey.{by_name, by_character}
 use Rattle.tk_sequences.specs.Lookup.{looked_up}
 use Rattle.tk_sequences.specs.Modifiers.{modifier_words, modifier_named}
 use Rattle.tk_sequences.specs.Patterns.{repetition_words, repetition_named}
-use Rattle.tk_sequences.specs.Reading.{prefix_named, button_words, button_named, key_of_one, key_meant, is_single, may_repeat}
+use Rattle.tk_sequences.specs.Reading.{prefix_named, key_of_one, key_meant, may_repeat}
+use Rattle.tk_sequences.specs.Words.{button_words, button_named, is_single}
 use Rattle.tk_sequences.specs.Types.{type_words, type_named, is_key_type, is_button_type}
 use Rattle.tk_sequences.specs.declared.event_type.EventType.{EventType}
 use Rattle.tk_sequences.specs.declared.modifier.Modifier.{Modifier}

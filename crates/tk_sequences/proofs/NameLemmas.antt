@@ -4,7 +4,7 @@ use Rattle.std.specs.Prelude.{codes}
 use Rattle.std.specs.Str.{bytes_eq}
 use Rattle.std.proofs.lemmas.List.{take_at, drop_at}
 use Rattle.std.proofs.lemmas.Slice.Eq.{bytes_eq-Decides}
-use Rattle.tk_sequences.specs.Reading.{in_brackets, is_name, middle, name_in}
+use Rattle.tk_sequences.specs.Words.{in_brackets, is_name, middle, name_in}
 
 -- the middle of a name in brackets is the name
 pub middle_is : (name : List ℕ) → middle (in_brackets name) ≡ name

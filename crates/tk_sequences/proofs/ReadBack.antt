@@ -8,7 +8,8 @@ use Rattle.tk_sequences.proofs.WordLemmas.{is_inside, both_first, both_second, i
 use Rattle.tk_sequences.proofs.WrittenLemmas.{inner_of, pattern_is, inner_inside, patterns_back}
 use Rattle.tk_sequences.proofs.NameLemmas.{name_in_none}
 use Rattle.tk_sequences.specs.Patterns.{count_of}
-use Rattle.tk_sequences.specs.Reading.{Outcome, ◌>>=◌, Between, patterns_from, some_patterns, physical, in_brackets, is_name, middle, name_in, begins_with_bracket, has_brackets, named_or_physical, parsed}
+use Rattle.tk_sequences.specs.Reading.{Outcome, ◌>>=◌, Between, patterns_from, some_patterns, physical, begins_with_bracket, has_brackets, named_or_physical, parsed}
+use Rattle.tk_sequences.specs.Words.{in_brackets, is_name, middle, name_in}
 use Rattle.tk_sequences.specs.Writing.{patterns_written, canonical}
 use Rattle.tk_sequences.specs.declared.fault.SequenceFault.TheVariants.{BadSequence}
 use Rattle.tk_sequences.specs.declared.pattern.Pattern.{Pattern}

@@ -14,7 +14,8 @@ use Rattle.tk_base.proofs.NamesLemmas.{length_key_names}
 use Rattle.tk_base.specs.Names.{key_names, key_named, key_of_character}
 use Rattle.tk_sequences.specs.Modifiers.{modifier_bit}
 use Rattle.tk_sequences.specs.Patterns.{count_of, times_of}
-use Rattle.tk_sequences.specs.Reading.{Outcome, ◌>>=◌, fields, prefix_named, button_named, key_of_one, key_meant, is_single, key_or_fault, button_or_fault, detail_of, detail_behind, may_repeat, typed, button_or_key, type_of_detail, alone, untyped, typed_or_not, headed, with_prefix, pattern_behind, pattern_of, plain_key, plain_pattern, ReadingPlace, Between, Within, onto, counted, patterns_from}
+use Rattle.tk_sequences.specs.Reading.{Outcome, ◌>>=◌, fields, prefix_named, key_of_one, key_meant, key_or_fault, button_or_fault, detail_of, detail_behind, may_repeat, typed, button_or_key, type_of_detail, alone, untyped, typed_or_not, headed, with_prefix, pattern_behind, pattern_of, plain_key, plain_pattern, ReadingPlace, Between, Within, onto, counted, patterns_from}
+use Rattle.tk_sequences.specs.Words.{button_named, is_single}
 use Rattle.tk_sequences.specs.Types.{type_named, is_key_type, is_button_type}
 use Rattle.tk_sequences.specs.declared.detail.Detail.{Detail}
 use Rattle.tk_sequences.specs.declared.detail.Detail.TheVariants.{Key, Button}

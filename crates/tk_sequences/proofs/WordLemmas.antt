@@ -6,7 +6,8 @@ use Rattle.std.proofs.lemmas.List.Sums.{AllPass-from_list_all}
 use Rattle.std.proofs.lemmas.Option.{unwrap_or-slice_get}
 use Rattle.tk_base.proofs.NamesLemmas.{length_key_names}
 use Rattle.tk_base.specs.Names.{key_names, name_of}
-use Rattle.tk_sequences.specs.Reading.{fields, is_separator, is_some_text}
+use Rattle.tk_sequences.specs.Reading.{fields}
+use Rattle.tk_sequences.specs.Words.{is_separator, is_some_text}
 
 -- what may stand between the brackets of a pattern
 abbrev pub is_inside : ℕ → Bool

@@ -12,7 +12,8 @@ use Rattle.tk_base.proofs.NamesLemmas.{named-name}
 use Rattle.tk_sequences.proofs.PieceLemmas.{closed}
 use Rattle.tk_sequences.specs.Modifiers.{all_modifiers, has_modifier, modifier_name}
 use Rattle.tk_sequences.specs.Patterns.{count_of, times_of}
-use Rattle.tk_sequences.specs.Reading.{Outcome, fields, is_some_text, key_meant, is_single, detail_of, detail_behind, may_repeat, typed, headed, pattern_behind, pattern_of, Between, counted, patterns_from}
+use Rattle.tk_sequences.specs.Reading.{Outcome, fields, key_meant, detail_of, detail_behind, may_repeat, typed, headed, pattern_behind, pattern_of, Between, counted, patterns_from}
+use Rattle.tk_sequences.specs.Words.{is_some_text, is_single}
 use Rattle.tk_sequences.specs.Types.{type_name}
 use Rattle.tk_sequences.specs.Writing.{modifier_written, held_written, repetition_written, detail_written, some_detail_written, pattern_written, patterns_written}
 use Rattle.tk_sequences.specs.declared.detail.Detail.{Detail}

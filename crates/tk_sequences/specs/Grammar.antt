@@ -7,7 +7,7 @@ use Rattle.tcl_text.specs.Bytes.{greater_sign, less_sign, minus_sign, space}
 use Rattle.tk_base.specs.Names.{key_named, key_of_character}
 use Rattle.tk_sequences.specs.Modifiers.{modifier_named, modifier_bit}
 use Rattle.tk_sequences.specs.Patterns.{count_of, most_events, repetition_named}
-use Rattle.tk_sequences.specs.Reading.{is_separator, button_named}
+use Rattle.tk_sequences.specs.Words.{is_separator, button_named}
 use Rattle.tk_sequences.specs.Types.{type_named, is_key_type, is_button_type}
 use Rattle.tk_sequences.specs.declared.detail.Detail.{Detail}
 use Rattle.tk_sequences.specs.declared.detail.Detail.TheVariants as details

@@ -9,4 +9,5 @@ pub mod Names
 pub mod Patterns
 pub mod Reading
 pub mod Types
+pub mod Words
 pub mod Writing

@@ -1,15 +1,14 @@
 -- Steps. What a text says as an event sequence, and why one is refused, as a function that goes from byte to byte. What it is says `Grammar`, as a
 -- relation on the whole text; that they are one, the laws `sequences_are_read` and `faults_are_told`.
-use Rattle.std.specs.Prelude.{◌≡◌, ℕ, ◌+◌, ◌-◌, Bool, true, false, ◌&&◌, ◌||◌, ◌==◌, not, nat_lt, nat_le, bit_or, if◌then◌else◌, List, [], ◌∷◌, ◌++◌, length, take, drop, filter, Option, Some, None, option_map, Result, Ok, Err, codes}
-use Rattle.std.specs.List.{list_all, prefix_len, slice_split}
+use Rattle.std.specs.Prelude.{◌≡◌, ℕ, ◌+◌, ◌-◌, Bool, false, ◌&&◌, ◌||◌, ◌==◌, nat_le, bit_or, if◌then◌else◌, List, [], ◌∷◌, ◌++◌, drop, filter, Option, Some, None, option_map, Result, Ok, Err}
+use Rattle.std.specs.List.{prefix_len, slice_split}
 use Rattle.std.specs.Option.{option_or}
-use Rattle.std.specs.Str.{bytes_eq}
 use Rattle.tcl_text.specs.Backslash.{is_white}
 use Rattle.tk_base.specs.Names.{key_named, key_of_character}
-use Rattle.tk_sequences.specs.Lookup.{looked_up}
 use Rattle.tk_sequences.specs.Modifiers.{modifier_named, modifier_bit}
 use Rattle.tk_sequences.specs.Patterns.{most_events, repetition_named, times_of}
 use Rattle.tk_sequences.specs.Types.{type_named, is_key_type, is_button_type}
+use Rattle.tk_sequences.specs.Words.{button_named, is_separator, is_single, is_some_text, name_in}
 use Rattle.tk_sequences.specs.declared.detail.Detail.{Detail}
 use Rattle.tk_sequences.specs.declared.detail.Detail.TheVariants as details
 use Rattle.tk_sequences.specs.declared.event_type.EventType.{EventType}
@@ -19,7 +18,7 @@ use Rattle.tk_sequences.specs.declared.fault.SequenceFault.TheVariants.{BadSeque
 use Rattle.tk_sequences.specs.declared.modifier.Modifier.{Modifier}
 use Rattle.tk_sequences.specs.declared.pattern.Pattern.{Pattern}
 use Rattle.tk_sequences.specs.declared.pattern.Repetition.{Repetition}
-use Rattle.tk_sequences.specs.declared.pattern.Repetition.TheVariants.{Single, Double, Triple, Quadruple}
+use Rattle.tk_sequences.specs.declared.pattern.Repetition.TheVariants.{Single}
 use Rattle.tk_sequences.specs.declared.sequence.Sequence.{Sequence}
 use Rattle.tk_sequences.specs.declared.sequence.Sequence.TheVariants.{Virtual, Physical}
 use Rattle.tk_sequences.specs.declared.reading.Prefix.{Prefix}
@@ -37,12 +36,6 @@ Err fault >>= rest = Err fault
 
 -- ---- the fields of a pattern in brackets
 
-abbrev pub is_separator : ℕ → Bool
-is_separator byte = byte == 45 || is_white byte
-
-abbrev pub is_some_text : List ℕ → Bool
-is_some_text text = nat_lt 0 (length text)
-
 -- what stands between separators, of which any number may come together, also in front and at the end
 unfoldable pub fields : List ℕ → List (List ℕ)
 fields inner = filter is_some_text (slice_split is_separator inner)
@@ -52,13 +45,6 @@ fields inner = filter is_some_text (slice_split is_separator inner)
 -- a modifier, or how often the event comes
 abbrev pub prefix_named : List ℕ → Option Prefix
 prefix_named word = option_or (option_map prefixes.Modifier (modifier_named word)) (option_map prefixes.Repetition (repetition_named word))
-
--- the buttons
-abbrev pub button_words : List (List ℕ × ℕ)
-button_words = (codes "1", 1) ∷ (codes "2", 2) ∷ (codes "3", 3) ∷ (codes "4", 4) ∷ (codes "5", 5) ∷ []
-
-abbrev pub button_named : List ℕ → Option ℕ
-button_named word = looked_up word button_words
 
 -- a character that stands for its key, within brackets: not `-`, `<` or `>`
 abbrev pub key_of_one : List ℕ → Option ℕ
@@ -71,12 +57,6 @@ unfoldable pub key_meant : List ℕ → Option ℕ
 key_meant word = option_or (key_named word) (key_of_one word)
 
 -- ---- one pattern
-
-abbrev pub is_single : Repetition → Bool
-is_single Single = true
-is_single Double = false
-is_single Triple = false
-is_single Quadruple = false
 
 -- the detail of a type, or none of the right kind: an unknown key is told by itself, anything else by the whole sequence
 abbrev pub key_or_fault : List ℕ → Option ℕ → Outcome Detail
@@ -219,24 +199,6 @@ physical whole = do
   some_patterns whole patterns
 
 -- ---- the whole
-
--- a virtual event's name in its brackets
-abbrev pub in_brackets : List ℕ → List ℕ
-in_brackets name = codes "<<" ++ (name ++ codes ">>")
-
-abbrev pub has_no_closing : List ℕ → Bool
-has_no_closing bytes = list_all (λ byte. not (byte == 62)) bytes
-
-abbrev pub is_name : List ℕ → Bool
-is_name name = is_some_text name && has_no_closing name
-
--- what stands between the first two bytes and the last two
-abbrev pub middle : List ℕ → List ℕ
-middle text = drop 2 (take (length text - 2) text)
-
--- the name of which the text is the form in brackets
-unfoldable pub name_in : List ℕ → Option (List ℕ)
-name_in text = if is_name (middle text) && bytes_eq text (in_brackets (middle text)) then Some (middle text) else None
 
 abbrev pub begins_with_bracket : List ℕ → Bool
 begins_with_bracket [] = false

@@ -4,7 +4,7 @@ use Rattle.std.specs.Fmt.{decimal}
 use Rattle.std.specs.List.{flat_map}
 use Rattle.tk_base.specs.Names.{name_of}
 use Rattle.tk_sequences.specs.Modifiers.{all_modifiers, has_modifier, modifier_name}
-use Rattle.tk_sequences.specs.Reading.{in_brackets}
+use Rattle.tk_sequences.specs.Words.{in_brackets}
 use Rattle.tk_sequences.specs.Types.{type_name}
 use Rattle.tk_sequences.specs.declared.detail.Detail.{Detail}
 use Rattle.tk_sequences.specs.declared.detail.Detail.TheVariants.{Key, Button}

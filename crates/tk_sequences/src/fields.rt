@@ -2,7 +2,8 @@
 ghost use Rattle.std.specs.Prelude.{◌≡◌, ◌<◌, [], ◌∷◌, length, IfSome, MatchOption};
 ghost use Rattle.std.specs.List.{prefix_len, position_or_len};
 ghost use Rattle.tcl_text.specs.Backslash as backslash;
-ghost use Rattle.tk_sequences.specs.Reading.{behind_white, fields, is_separator};
+ghost use Rattle.tk_sequences.specs.Reading.{behind_white, fields};
+ghost use Rattle.tk_sequences.specs.Words.{is_separator};
 
 /// Whether the byte is white space: blank, tab, newline, vertical tab, form feed or carriage return.
 pub fn is_white(byte: u8) -> bool

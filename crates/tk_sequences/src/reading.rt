@@ -2,7 +2,8 @@
 ghost use Rattle.std.specs.Prelude.{◌≡◌, ◌≢◌, ◌<◌, ◌≤◌, length, drop, slice_index, false, IfOk, IfErr, Ok, Err, Some, None};
 ghost use Rattle.std.specs.Str.{IsCharBoundary};
 ghost use Rattle.tcl_text.specs.Backslash.{is_white};
-ghost use Rattle.tk_sequences.specs.Reading.{prefix_named, button_named, key_of_one, key_meant, detail_of, key_or_fault, detail_behind, typed, button_or_key, type_of_detail, untyped, headed, pattern_of, plain_pattern, patterns_from, Between, CutsOff, IsRefused, fields, is_single};
+ghost use Rattle.tk_sequences.specs.Reading.{prefix_named, key_of_one, key_meant, detail_of, key_or_fault, detail_behind, typed, button_or_key, type_of_detail, untyped, headed, pattern_of, plain_pattern, patterns_from, Between, CutsOff, IsRefused, fields};
+ghost use Rattle.tk_sequences.specs.Words.{button_named, is_single};
 ghost use Rattle.tk_sequences.specs.Patterns.{count_of, most_events};
 
 use crate::detail::Detail;

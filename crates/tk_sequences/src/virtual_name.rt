@@ -1,7 +1,7 @@
 ghost use Rattle.std.specs.Prelude.{◌≡◌, ◌≤◌, length, IfOk, IfSome};
 ghost use Rattle.std.specs.Option.{option_copied};
 ghost use Rattle.tk_sequences.specs.Names.{IsName};
-ghost use Rattle.tk_sequences.specs.Reading.{has_no_closing, is_name, name_in};
+ghost use Rattle.tk_sequences.specs.Words.{has_no_closing, is_name, name_in};
 ghost use Rattle.tcl_text.specs.Limits.{most_bytes};
 
 use crate::written::name_written;
@@ -28,7 +28,7 @@ impl Model for VirtualName {
 
 impl VirtualName {
     ghost use Rattle.tk_sequences.specs.Names.{IsName};
-    ghost use Rattle.tk_sequences.specs.Reading.{in_brackets, name_in};
+    ghost use Rattle.tk_sequences.specs.Words.{in_brackets, name_in};
 
     /// This name.
     pub(crate) fn of(name: Text) -> VirtualName
@@ -39,7 +39,7 @@ impl VirtualName {
     }
 
     /// The name that a text has between `<<` at its front and `>>` at its end; none where it isn't of this form.
-    #[tactic(auto, unfolding(crate::specs::Reading::name_in))]
+    #[tactic(auto, unfolding(crate::specs::Words::name_in))]
     pub fn parse(alloc: Global, text: &Text) -> Result<Option<VirtualName>, AllocError>
         ensures { IfOk result (λ name. name ≡ name_in text.now) }
     {

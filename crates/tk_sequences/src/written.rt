@@ -1,7 +1,7 @@
 //! Writes sequences in their canonical form.
 ghost use Rattle.std.specs.Prelude.{◌≡◌, ◌++◌, IfOk, OnOk, string_bytes};
 ghost use Rattle.std.specs.Fmt.{decimal};
-ghost use Rattle.tk_sequences.specs.Reading.{in_brackets};
+ghost use Rattle.tk_sequences.specs.Words.{in_brackets};
 ghost use Rattle.tk_sequences.specs.Writing.{detail_written, some_detail_written, held_written, modifier_written, pattern_written, patterns_written as all_written, repetition_written};
 
 use crate::detail::Detail;

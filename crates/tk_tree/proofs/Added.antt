@@ -14,7 +14,7 @@ use Rattle.tk_tree.specs.declared.windows.Node.{Node}
 use Rattle.tk_tree.specs.Arena.{at, held_by, IsKept, HoldsNumber, HoldsPath}
 use Rattle.tk_tree.specs.Create.{with_window}
 use Rattle.tk_tree.specs.Index.{key_at, number_at, children_at, added_child, left_children, Adds, Removes, SameIndex}
-use Rattle.tk_tree.specs.Own.{Own, own_of, LeavesOthers, HasOlderParent, IsSound, at_path, is_full, child_numbers}
+use Rattle.tk_tree.specs.Own.{Tree, own_of, LeavesOthers, HasOlderParent, IsSound, at_path, is_full, child_numbers}
 use Rattle.tk_tree.specs.Window.{number_of, new_window}
 use Rattle.tk_tree.proofs.Children.{Differ, differ_below, one_child, children-append, left_new, no_children}
 use Rattle.tk_tree.proofs.IndexLemmas.{text_is, text_same}
@@ -23,7 +23,7 @@ use Rattle.tk_tree.proofs.Looks.{next_unused, number_is}
 use Rattle.tk_tree.proofs.Slots.{Slots, own_list, one_more}
 use Rattle.tk_base.specs.Counters.{next_of, count_of, Counts}
 
-pub own_same : (n m : ℕ) (xs ys : List Window) → n ≡ m → xs ≡ ys → ◌≡◌ {A = Own} (record { next_number = n; windows = xs }) (record { next_number = m; windows = ys })
+pub own_same : (n m : ℕ) (xs ys : List Window) → n ≡ m → xs ≡ ys → ◌≡◌ {A = Tree} (record { next_number = n; windows = xs }) (record { next_number = m; windows = ys })
 own_same n m xs ys same list = ap (λ k. record { next_number = k; windows = xs }) same ∙ ap (λ zs. record { next_number = m; windows = zs }) list
 
 pub cases_text : (p q : List ℕ) → (p ≡ q) ⊎ (p ≢ q)

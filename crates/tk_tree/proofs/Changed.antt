@@ -14,7 +14,7 @@ use Rattle.tk_tree.specs.Change.{changed as change_of}
 use Rattle.tk_tree.specs.declared.change.WindowChange.{WindowChange}
 use Rattle.tk_tree.specs.declared.change.WindowChange.TheVariants.{Dying, Tags, Place}
 use Rattle.tk_tree.specs.Index.{key_at, number_at, children_at, left_children, Removes}
-use Rattle.tk_tree.specs.Own.{Own, own_of, LeavesOthers, HasOlderParent, HaveOlderParents, IsSound, with_change, without_window, child_numbers}
+use Rattle.tk_tree.specs.Own.{Tree, own_of, LeavesOthers, HasOlderParent, HaveOlderParents, IsSound, with_change, without_window, child_numbers}
 use Rattle.tk_tree.specs.Window.{number_of}
 use Rattle.tk_tree.proofs.Added.{own_same, cases_text}
 use Rattle.tk_tree.proofs.Children.{differ_front, differ_back, children-append, children_with, children_swap, children_less, still_none}
@@ -316,7 +316,7 @@ module _ (index after : PathIndex) (slots : Slots) (counters later : List (ℕ �
     others = gone_others;
   }
 
-pub own_windows : (own : Own) (xs ys : List Window) → xs ≡ ys → ◌≡◌ {A = Own} (record own { windows = xs }) (record own { windows = ys })
+pub own_windows : (own : Tree) (xs ys : List Window) → xs ≡ ys → ◌≡◌ {A = Tree} (record own { windows = xs }) (record own { windows = ys })
 own_windows own xs ys same = ap (λ zs. record own { windows = zs }) same
 
 -- ── what `change` and `remove` did, as their calls say it ──

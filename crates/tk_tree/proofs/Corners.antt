@@ -6,7 +6,7 @@ use Rattle.std.proofs.lemmas.List.{reverse-append, length-reverse}
 use Rattle.std.proofs.lemmas.List.Sums.{sum_by-cons, sum_by_push}
 use Rattle.tk_tree.specs.declared.window.Window.{Window}
 use Rattle.tk_tree.specs.Corners.{across, asked, corner, down}
-use Rattle.tk_tree.specs.Own.{IsSound, Own, window_at}
+use Rattle.tk_tree.specs.Own.{IsSound, Tree, window_at}
 use Rattle.tk_tree.specs.Ways.{way_to, way_up}
 use Rattle.tk_tree.proofs.Ways.{up_to_none, up_to_parent}
 
@@ -30,7 +30,7 @@ way_up_short (Some number) (window ∷ older) = by (window.number == number) ref
     by false is taken skipped = rw is (omega (arith, skipped))
 
 -- the windows of an application
-module _ (own : Own) (sound : IsSound own) where
+module _ (own : Tree) (sound : IsSound own) where
   -- a way is added up in either direction
   pub added_up : (f : ℕ → ℕ) (n : ℕ) → sum_by f (way_to n own) ≡ sum_by f (way_up (Some n) (reverse own.windows))
   added_up f n = sum_by-reverse f (way_up (Some n) (reverse own.windows))
@@ -55,13 +55,13 @@ module _ (own : Own) (sound : IsSound own) where
   length_up n window is = let up = up_to_parent own sound n window is in rw up (omega arith)
 
 -- the windows from one on up are still to be added, and the sums so far fit
-pub record IsAddedUp (own : Own) (n x y : ℕ) (up : Option ℕ) : Type 0 where
+pub record IsAddedUp (own : Tree) (n x y : ℕ) (up : Option ℕ) : Type 0 where
   pub across_is : x + sum_by (across own) (way_up up (reverse own.windows)) ≡ sum_by (across own) (way_up (Some n) (reverse own.windows))
   pub down_is : y + sum_by (down own) (way_up up (reverse own.windows)) ≡ sum_by (down own) (way_up (Some n) (reverse own.windows))
   pub across_fits : x + 4294967295 * length (way_up up (reverse own.windows)) ≤ 4294967295 * length (way_up (Some n) (reverse own.windows))
   pub down_fits : y + 4294967295 * length (way_up up (reverse own.windows)) ≤ 4294967295 * length (way_up (Some n) (reverse own.windows))
 
-module _ (own : Own) (sound : IsSound own) (n x y : ℕ) where
+module _ (own : Tree) (sound : IsSound own) (n x y : ℕ) where
   pub step_up : (number : ℕ) (window : Window) (px py : ℕ) → Some window ≡ window_at number own → px ≡ window.place.x → py ≡ window.place.y → px < 4294967296 → py < 4294967296
       → IsAddedUp own n x y (Some number) → IsAddedUp own n (x + px) (y + py) window.parent
   step_up number window px py is x_is y_is x_small y_small added =

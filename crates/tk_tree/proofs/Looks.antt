@@ -12,7 +12,7 @@ use Rattle.tk_tree.specs.declared.windows.Node.{Node}
 use Rattle.tk_tree.specs.Arena.{at, held_by, IsKept}
 use Rattle.tk_tree.specs.Index.{key_at, number_at}
 use Rattle.std.specs.Option.{option_copied}
-use Rattle.tk_tree.specs.Own.{Own, own_of, window_at, at_path}
+use Rattle.tk_tree.specs.Own.{Tree, own_of, window_at, at_path}
 use Rattle.tk_tree.specs.Window.{number_of}
 use Rattle.tk_tree.proofs.IndexLemmas.{text_is, text_same}
 use Rattle.tk_tree.proofs.Lists.{some_same, find_passes, find_below, find_numbered}
@@ -123,6 +123,6 @@ pub mapped_some : {X Y : Type 0} (f : X → ℕ) (g : ℕ → Y) (n : ℕ) (o : 
 mapped_some f g n None is = absurd (cc)
 mapped_some f g n (Some x) is = ap (λ m. Some (g m)) (some_same n (f x) is)
 
-pub lent_given : (n : ℕ) (result : Option (Bor Window)) (own : Own) (number : ℕ) → option_copied result ≡ window_at number own → ((window : Window) → window_at number own ≡ Some window → window.number < n) → IfSome result (λ window. window.now.number < n)
+pub lent_given : (n : ℕ) (result : Option (Bor Window)) (own : Tree) (number : ℕ) → option_copied result ≡ window_at number own → ((window : Window) → window_at number own ≡ Some window → window.number < n) → IfSome result (λ window. window.now.number < n)
 lent_given n None own number is given_so = tt
 lent_given n (Some window) own number is given_so = given_so window.now (sym is)

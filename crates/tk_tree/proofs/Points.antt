@@ -5,7 +5,7 @@ use Rattle.std.proofs.lemmas.Bool.{eq-eqb, ne_eqb}
 use Rattle.std.proofs.lemmas.List.{reverse-append}
 use Rattle.tk_base.specs.Bag.{numbered, AllAbove, IsRising}
 use Rattle.tk_tree.specs.declared.window.Window.{Window}
-use Rattle.tk_tree.specs.Own.{HasOlderParent, HaveOlderParents, IsSound, Own, child_numbers, is_child_of}
+use Rattle.tk_tree.specs.Own.{HasOlderParent, HaveOlderParents, IsSound, Tree, child_numbers, is_child_of}
 use Rattle.tk_tree.specs.Ways.{at_point, has_point, or_other}
 use Rattle.tk_tree.specs.Window.{number_of}
 use Rattle.tk_tree.proofs.Orders.{not_child}
@@ -86,7 +86,7 @@ by_children whole number x y (window ∷ windows) stand = by (is_child_of number
         ∙ ap (or_other (at_children x y whole (reverse (child_numbers number windows)))) one))
     by false is rest = rw is rest
 
-pub from_children : (own : Own) → IsSound own → (number x y : ℕ) → at_point number x y own.windows ≡ at_children x y own.windows (reverse (child_numbers number own.windows))
+pub from_children : (own : Tree) → IsSound own → (number x y : ℕ) → at_point number x y own.windows ≡ at_children x y own.windows (reverse (child_numbers number own.windows))
 from_children own sound number x y = by_children own.windows number x y own.windows (stand_all own.windows sound.rising sound.parents)
 
 -- ── one child after another ──

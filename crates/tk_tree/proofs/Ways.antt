@@ -5,7 +5,7 @@ use Rattle.std.proofs.lemmas.Bool.{eqb-true, ne_eqb}
 use Rattle.std.proofs.lemmas.List.{reverse-append}
 use Rattle.tk_base.specs.Bag.{numbered, AllBelow, AllAbove, IsRising}
 use Rattle.tk_tree.specs.declared.window.Window.{Window}
-use Rattle.tk_tree.specs.Own.{HasOlderParent, HaveOlderParents, IsSound, Own, window_at}
+use Rattle.tk_tree.specs.Own.{HasOlderParent, HaveOlderParents, IsSound, Tree, window_at}
 use Rattle.tk_tree.specs.Ways.{way_up}
 use Rattle.tk_tree.specs.Window.{number_of}
 use Rattle.tk_tree.proofs.Lists.{find_below, find_passes, parents_more, some_same}
@@ -123,7 +123,7 @@ nothing_up n (newer ∷ rest) is = by (newer.number == n) refl (λ later. nothin
     by false differs later = rw differs (later (rw differs at is))
 
 -- the windows of an application
-module _ (own : Own) (sound : IsSound own) where
+module _ (own : Tree) (sound : IsSound own) where
   pub up_to_parent : (n : ℕ) (window : Window) → Some window ≡ window_at n own → way_up (Some n) (reverse own.windows) ≡ n ∷ way_up window.parent (reverse own.windows)
   up_to_parent n window is =
       up_from n (reverse own.windows) window (falls_reversed own.windows sound.rising) (parents_reversed own.windows sound.parents) (found_reversed n own.windows sound.rising ∙ sym is)

@@ -2,7 +2,7 @@
 -- later: so what is below a window is found in the list behind it.
 use Rattle.std.specs.Prelude.{ℕ, List, [], ◌∷◌, ◌++◌, if◌then◌else◌}
 use Rattle.tk_tree.specs.declared.window.Window.{Window}
-use Rattle.tk_tree.specs.Own.{Own, is_child_of}
+use Rattle.tk_tree.specs.Own.{Tree, is_child_of}
 
 -- the windows below the one with a number, each before its own children, and children in the order of creation
 unfoldable pub below : ℕ → List Window → List ℕ
@@ -12,7 +12,7 @@ below number (window ∷ windows) =
     else below number windows
 
 -- the window with a number, and those below it (pre-order)
-abbrev pub subtree : ℕ → Own → List ℕ
+abbrev pub subtree : ℕ → Tree → List ℕ
 subtree number own = number ∷ below number own.windows
 
 -- the windows below the one with a number, each behind its own children, and children in the order of creation
@@ -23,5 +23,5 @@ below_first number (window ∷ windows) =
     else below_first number windows
 
 -- those below the window with a number, and then itself (post-order)
-abbrev pub post_order : ℕ → Own → List ℕ
+abbrev pub post_order : ℕ → Tree → List ℕ
 post_order number own = below_first number own.windows ++ number ∷ []

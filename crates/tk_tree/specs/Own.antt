@@ -10,7 +10,7 @@ use Rattle.tk_tree.specs.Window.{number_of}
 use Rattle.tk_base.specs.Counters.{next_of}
 
 -- one application's part: the number that comes next, and its windows in the order of creation, which is that of their numbers
-pub record Own : Type 0 where
+pub record Tree : Type 0 where
   pub next_number : ℕ
   pub windows : List Window
 
@@ -23,7 +23,7 @@ abbrev pub windows_of : ℕ → Held → List Window
 windows_of owner held = listed number_of owner held.bag
 
 -- an application's part
-abbrev pub own_of : ℕ → Held → Own
+abbrev pub own_of : ℕ → Held → Tree
 own_of owner held = record { next_number = next_of owner held.counters; windows = windows_of owner held }
 
 -- every other application's part is as before
@@ -31,11 +31,11 @@ abbrev pub LeavesOthers : ℕ → Held → Held → Type 0
 LeavesOthers owner old new = (other : ℕ) → other ≢ owner → own_of other new ≡ own_of other old
 
 -- the window with a number
-abbrev pub window_at : ℕ → Own → Option Window
+abbrev pub window_at : ℕ → Tree → Option Window
 window_at number own = numbered number_of number own.windows
 
 -- the window of a path
-abbrev pub at_path : List ℕ → Own → Option Window
+abbrev pub at_path : List ℕ → Tree → Option Window
 at_path path own = find (λ window. bytes_eq path window.path) own.windows
 
 -- how many windows an application has at most
@@ -43,7 +43,7 @@ abbrev pub most_windows : ℕ
 most_windows = 512
 
 -- no more windows: as many as there can be are there, or the last number, 2^64 - 2, was given
-abbrev pub is_full : Own → Bool
+abbrev pub is_full : Tree → Bool
 is_full own = nat_le most_windows (length own.windows) || (own.next_number == 18446744073709551615)
 
 -- the parent was made before the window
@@ -55,7 +55,7 @@ HaveOlderParents [] = Unit {0}
 HaveOlderParents (window ∷ windows) = HasOlderParent window × HaveOlderParents windows
 
 -- what holds of each application's part: numbers rise, each was given, parents are older than their children, and there are not too many windows
-pub record IsSound (own : Own) : Type 0 where
+pub record IsSound (own : Tree) : Type 0 where
   pub rising : IsRising number_of own.windows
   pub below : AllBelow number_of own.next_number own.windows
   pub parents : HaveOlderParents own.windows
@@ -64,11 +64,11 @@ pub record IsSound (own : Own) : Type 0 where
 -- ── what calls do to one application's part ──
 
 -- the window with a number changed
-abbrev pub with_change : ℕ → (Window → Window) → Own → Own
+abbrev pub with_change : ℕ → (Window → Window) → Tree → Tree
 with_change number change own = record own { windows = changed_at number_of number change own.windows }
 
 -- the window with a number gone
-abbrev pub without_window : ℕ → Own → Own
+abbrev pub without_window : ℕ → Tree → Tree
 without_window number own = record own { windows = without number_of number own.windows }
 
 -- whether the window is a child of the one with this number

@@ -1,7 +1,7 @@
 -- Meaning. The way from the main window to a window, and to the window at a point.
 use Rattle.std.specs.Prelude.{ℕ, ◌+◌, ◌-◌, Bool, ◌==◌, ◌&&◌, nat_le, nat_lt, List, [], ◌∷◌, Option, Some, None, if◌then◌else◌, codes, reverse}
 use Rattle.tk_tree.specs.declared.window.Window.{Window}
-use Rattle.tk_tree.specs.Own.{Own, at_path, is_child_of}
+use Rattle.tk_tree.specs.Own.{Tree, at_path, is_child_of}
 
 -- A window's number and those of its ancestors, the innermost first. The windows are given the newest first, so that a parent stands behind its children.
 unfoldable pub way_up : Option ℕ → List Window → List ℕ
@@ -10,7 +10,7 @@ way_up (Some number) [] = []
 way_up (Some number) (window ∷ older) = if window.number == number then number ∷ way_up window.parent older else way_up (Some number) older
 
 -- from the main window down to the window with a number; nothing where it is gone
-abbrev pub way_to : ℕ → Own → List ℕ
+abbrev pub way_to : ℕ → Tree → List ℕ
 way_to number own = reverse (way_up (Some number) (reverse own.windows))
 
 -- ── at a point ──
@@ -40,5 +40,5 @@ from_main x y windows None = []
 from_main x y windows (Some main) = if has_point x y main then main.number ∷ at_point main.number (x - main.place.x) (y - main.place.y) windows else []
 
 -- the way to the deepest mapped window at a point
-abbrev pub way_at : ℕ → ℕ → Own → List ℕ
+abbrev pub way_at : ℕ → ℕ → Tree → List ℕ
 way_at x y own = from_main x y own.windows (at_path (codes ".") own)

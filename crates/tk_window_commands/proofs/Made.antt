@@ -12,7 +12,7 @@ use Rattle.tk_options.specs.declared.settings.Setting.{Setting}
 use Rattle.tk_options.specs.Options.{settings, with_settings}
 use Rattle.tk_options.specs.Rows.{options_of}
 use Rattle.tk_screen.specs.Changes.{wrote}
-use Rattle.tk_screen.specs.Own.{Own, with_made}
+use Rattle.tk_screen.specs.Own.{Windowing, with_made}
 use Rattle.tk_widgets.specs.Commands.{Told, made, with_options}
 use Rattle.tk_widgets.specs.declared.outcome.WidgetChange.TheVariants.{Configure}
 use Rattle.tk_widgets.specs.declared.outcome.WidgetAct.{WidgetAct}
@@ -55,7 +55,7 @@ pub set_by : (all : List Setting) (widget widget' : Widget) (act : WidgetAct) �
 set_by all widget widget' act is = ap (λ (t : Told). t.widget) is
 
 -- the window is made of the widget, and its variable was written
-pub window_made : (own own' : Own) (kind : Kind) (path answer : List ℕ) (store new : Store) (done : Ready) (given : Result Ready (List ℕ))
+pub window_made : (own own' : Windowing) (kind : Kind) (path answer : List ℕ) (store new : Store) (done : Ready) (given : Result Ready (List ℕ))
     → given ≡ Ok done → wrote done.write store ≡ Ok new → own' ≡ with_made path kind done.widget own → answer ≡ path
     → or_keeps own store (made_of kind path own store given) ≡ record { own = own'; store = new; answer = Ok answer }
 window_made own own' kind path answer store new done given given_is wrote_is own_is answer_is =

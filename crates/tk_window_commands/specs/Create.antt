@@ -11,11 +11,11 @@ use Rattle.tk_options.specs.FaultTexts.{fault_text as option_text}
 use Rattle.tk_options.specs.Options.{settings, with_settings}
 use Rattle.tk_options.specs.Rows.{options_of, row_of}
 use Rattle.tk_screen.specs.Changes.{wrote}
-use Rattle.tk_screen.specs.Own.{Own, with_made}
+use Rattle.tk_screen.specs.Own.{Windowing, with_made}
 use Rattle.tk_tree.specs.Create.{refusal}
 use Rattle.tk_tree.specs.declared.fault.WindowFault.{WindowFault}
 use Rattle.tk_tree.specs.declared.fault.WindowFault.TheVariants.{BadPath, BadName, Dying, Exists, Full, NoMemory}
-use Rattle.tk_tree.specs.Own.{Own as Tree}
+use Rattle.tk_tree.specs.Own.{Tree}
 use Rattle.tk_tree.specs.Path.{parent_and_name}
 use Rattle.tk_widgets.specs.Commands.{variable_write, with_options}
 use Rattle.tk_widgets.specs.declared.outcome.WidgetChange.TheVariants.{Configure}
@@ -59,27 +59,27 @@ configured_new kind (Ok all) = Ok (configured all (new_widget kind))
 configured_new kind (Err fault) = fails (option_text fault)
 
 -- the window, made of the widget, whose variable is written
-abbrev pub made_with : Kind → List ℕ → Own → Ready → Store → Done
+abbrev pub made_with : Kind → List ℕ → Windowing → Ready → Store → Done
 made_with kind path own ready written = record { own = with_made path kind ready.widget own; store = written; answer = Ok path }
 
-abbrev pub made_of : Kind → List ℕ → Own → Store → Result Ready (List ℕ) → Result Done (List ℕ)
+abbrev pub made_of : Kind → List ℕ → Windowing → Store → Result Ready (List ℕ) → Result Done (List ℕ)
 made_of kind path own store given = do
   ready ← given
   written ← wrote ready.write store
   Ok (made_with kind path own ready written)
 
 -- the path is tested before the options, and both before anything is written or made
-abbrev pub made : Kind → List ℕ → List (List ℕ) → Own → Store → Result Done (List ℕ)
+abbrev pub made : Kind → List ℕ → List (List ℕ) → Windowing → Store → Result Done (List ℕ)
 made kind path options own store = do
   _ ← allowed path (path_refusal path own.tree)
   made_of kind path own store (configured_new kind (settings options (options_of kind)))
 
 -- a refused command changes nothing
-abbrev pub or_keeps : Own → Store → Result Done (List ℕ) → Done
+abbrev pub or_keeps : Windowing → Store → Result Done (List ℕ) → Done
 or_keeps own store (Ok done) = done
 or_keeps own store (Err text) = keeps own store (Err text)
 
 -- KIND path ?option value ..?: the answer is the path
-unfoldable pub create_words : Kind → List (List ℕ) → Own → Store → Done
+unfoldable pub create_words : Kind → List (List ℕ) → Windowing → Store → Done
 create_words kind [] own store = keeps own store (wrong_args (row_of kind).usage)
 create_words kind (path ∷ options) own store = or_keeps own store (made kind path options own store)

@@ -9,10 +9,10 @@ use Rattle.tcl_text.specs.Readings.{list_form}
 use Rattle.tcl_vars.specs.Store.{Store}
 use Rattle.tk_base.specs.Kind.{class_of}
 use Rattle.tk_screen.specs.Layout.{size_asked}
-use Rattle.tk_screen.specs.Own.{Own}
+use Rattle.tk_screen.specs.Own.{Windowing}
 use Rattle.tk_tree.specs.Corners.{corner}
 use Rattle.tk_tree.specs.declared.window.Window.{Window}
-use Rattle.tk_tree.specs.Own.{Own as Tree, at_path, child_numbers, window_at}
+use Rattle.tk_tree.specs.Own.{Tree, at_path, child_numbers, window_at}
 use Rattle.tk_window_commands.specs.Create.{name_in}
 use Rattle.tk_window_commands.specs.declared.winfo.Question.{Question}
 use Rattle.tk_window_commands.specs.declared.winfo.Question.TheVariants.{Children, Class, Exists, Height, IsMapped, Name, Parent, RequestedHeight, RequestedWidth, RootX, RootY, Toplevel, Width, X, Y}
@@ -53,14 +53,14 @@ path_at tree number = option_map_or (λ window. window.path) (window_at number t
 abbrev pub class_told : Window → List ℕ
 class_told window = if bytes_eq window.path (codes ".") then codes "Tk" else class_of window.kind
 
-abbrev pub application_name : Own → List ℕ
+abbrev pub application_name : Windowing → List ℕ
 application_name own = option_map_or (λ toplevel. toplevel.name) own.toplevel []
 
-abbrev pub name_told : Own → Window → List ℕ
+abbrev pub name_told : Windowing → Window → List ℕ
 name_told own window = if bytes_eq window.path (codes ".") then application_name own else name_in window.path
 
 -- the size that a window asks for; the least is a pixel
-abbrev pub asked_for : Own → Store → ℕ → ℕ × ℕ
+abbrev pub asked_for : Windowing → Store → ℕ → ℕ × ℕ
 asked_for own store number = unwrap_or (size_asked own store number) (1, 1)
 
 -- the paths of the children of a window, in the order of creation
@@ -69,7 +69,7 @@ children_told number tree = answers (list_form (map (path_at tree) (child_number
 
 -- what is told of a window that is there: lengths in pixels, x and y from the parent's corner, rootx and rooty from that of the application's
 -- rectangle
-unfoldable pub told : Question → Own → Store → Window → Answer
+unfoldable pub told : Question → Windowing → Store → Window → Answer
 told Children own store window = children_told window.number own.tree
 told Class own store window = Ok (class_told window)
 told Exists own store window = truth true
@@ -91,17 +91,17 @@ abbrev pub told_of_none : Question → List ℕ → Answer
 told_of_none Exists path = truth false
 told_of_none _ path = bad_path path
 
-abbrev pub told_at : Question → List ℕ → Own → Store → Answer
+abbrev pub told_at : Question → List ℕ → Windowing → Store → Answer
 told_at question path own store = option_map_or (told question own store) (at_path path own.tree) (told_of_none question path)
 
 abbrev pub wrong_question : List ℕ → Answer
 wrong_question name = wrong_args (codes "winfo " ++ (name ++ codes " path"))
 
-abbrev pub question_words : List ℕ → List (List ℕ) → Own → Store → Option Question → Answer
+abbrev pub question_words : List ℕ → List (List ℕ) → Windowing → Store → Option Question → Answer
 question_words name words own store None = bad_option name
 question_words name (path ∷ []) own store (Some question) = told_at question path own store
 question_words name _ own store (Some question) = wrong_question name
 
-unfoldable pub winfo_words : List (List ℕ) → Own → Store → Answer
+unfoldable pub winfo_words : List (List ℕ) → Windowing → Store → Answer
 winfo_words [] own store = wrong_args (codes "winfo option ?arg ..?")
 winfo_words (name ∷ words) own store = question_words name words own store (question_named name)

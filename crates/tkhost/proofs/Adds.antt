@@ -15,7 +15,7 @@ use Rattle.tk_route.specs.declared.fault.HostFault.TheVariants.{Refused, NoMemor
 use Rattle.tk_route.specs.declared.fault.LineFault.{LineFault}
 use Rattle.tk_host.specs.declared.phase.Phase.{Phase}
 use Rattle.tk_host.specs.declared.phase.Phase.TheVariants.{Adding}
-use Rattle.tk_host.specs.Held.{Call, AddApp, Held, given_by, held_after, held_in, lines_after, lines_of, part_in, parts_in, phase_after}
+use Rattle.tk_host.specs.Held.{Call, AddApp, HostState, given_by, held_after, held_in, lines_after, lines_of, part_in, parts_in, phase_after}
 use Rattle.tk_host.specs.Refusals.{IsRefusal, RefusesApp, add_faults}
 use Rattle.tk_host.specs.Spec.{Given, rect_of}
 use Rattle.tk_session.specs.Session.{AreAllowed, IsCovered, IsTaken, MayFollow, MayServe, rects_of}
@@ -159,7 +159,7 @@ module _ {M : Type 0} (answer : M → Meaning) where
   -- ── one after another ──
 
   -- so many have been added, each with its aliases, and these lists are left
-  pub record Added (apps : List AppBlock) (lists : List (List (List ℕ × M))) (count : ℕ) (left : List (List (List ℕ × M))) (held : Held M) : Type 0 where
+  pub record Added (apps : List AppBlock) (lists : List (List (List ℕ × M))) (count : ℕ) (left : List (List (List ℕ × M))) (held : HostState M) : Type 0 where
     pub done : List (List (List ℕ × M))
     pub all : lists ≡ done ++ left
     pub served : Serve (take count apps) done
@@ -167,12 +167,12 @@ module _ {M : Type 0} (answer : M → Meaning) where
     pub allowed : AreAllowed (take count apps) (drop count apps)
     pub now : held ≡ held_after answer (adding (take count apps) done)
 
-  pub added_none : (apps : List AppBlock) (lists left : List (List (List ℕ × M))) (held : Held M) → left ≡ lists → Serve apps lists → AreAllowed [] apps → held ≡ held_after answer [] → Added apps lists 0 left held
+  pub added_none : (apps : List AppBlock) (lists left : List (List (List ℕ × M))) (held : HostState M) → left ≡ lists → Serve apps lists → AreAllowed [] apps → held ≡ held_after answer [] → Added apps lists 0 left held
   added_none apps lists left held same serve allowed empty =
       record { done = []; all = sym same; served = tt; serve = subst (Serve apps) (sym same) serve; allowed = allowed; now = empty }
 
   -- the next one, where one is left
-  module _ (apps : List AppBlock) (lists left : List (List (List ℕ × M))) (count : ℕ) (held : Held M) (added : Added apps lists count left held) (app : AppBlock)
+  module _ (apps : List AppBlock) (lists left : List (List (List ℕ × M))) (count : ℕ) (held : HostState M) (added : Added apps lists count left held) (app : AppBlock)
       (within : count < length apps) (is : app ≡ get_or apps count app) where
     next_apps : drop count apps ≡ app ∷ drop (count + 1) apps
     next_apps = drop-cons apps count app within ∙ ap (λ a. a ∷ drop (suc count) apps) (sym is) ∙ ap (λ n. app ∷ drop n apps) (let e : suc count ≡ count + 1 = omega arith in e)
@@ -193,10 +193,10 @@ module _ {M : Type 0} (answer : M → Meaning) where
 
       pub not_refused : NoneApplies (RefusesApp held (given_of app aliases)) add_faults
       not_refused =
-          subst (λ (h : Held M). NoneApplies (RefusesApp h (given_of app aliases)) add_faults) (sym (added.now ∙ held-adding (take count apps) added.done))
+          subst (λ (h : HostState M). NoneApplies (RefusesApp h (given_of app aliases)) add_faults) (sym (added.now ∙ held-adding (take count apps) added.done))
           (none_refuses (take count apps) added.done app aliases added.served (serves.0, tt) may.0 may.1 may.2)
 
-      pub one_added : (after : Held M) → ((calls : List (Call M)) → held ≡ held_after answer calls → after ≡ held_after answer (calls ++ AddApp (given_of app aliases) ∷ [])) → Added apps lists (count + 1) others after
+      pub one_added : (after : HostState M) → ((calls : List (Call M)) → held ≡ held_after answer calls → after ≡ held_after answer (calls ++ AddApp (given_of app aliases) ∷ [])) → Added apps lists (count + 1) others after
       one_added after history = record {
         done = added.done ++ aliases ∷ [];
         all = added.all ∙ ap (λ rest. added.done ++ rest) from ∙ sym (append_assoc added.done (aliases ∷ []) others);
@@ -209,7 +209,7 @@ module _ {M : Type 0} (answer : M → Meaning) where
       }
 
   -- once all have been added
-  pub all_added : (apps : List AppBlock) (lists left : List (List (List ℕ × M))) (held : Held M) → Added apps lists (length apps) left held → held ≡ held_after answer (adding apps lists)
+  pub all_added : (apps : List AppBlock) (lists left : List (List (List ℕ × M))) (held : HostState M) → Added apps lists (length apps) left held → held ≡ held_after answer (adding apps lists)
   all_added apps lists left held added =
       let serve : Serve [] left = subst (λ rest. Serve rest left) (drop-length apps) added.serve in
       let none : left ≡ [] = by left serve in

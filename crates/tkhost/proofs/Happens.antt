@@ -9,7 +9,7 @@ use Rattle.tk_app.specs.Seen.{Meaning}
 use Rattle.tk_route.specs.declared.fault.LineFault.TheVariants.{Ended, Broken}
 use Rattle.tk_host.specs.declared.phase.Phase.{Phase}
 use Rattle.tk_host.specs.declared.phase.Phase.TheVariants.{Adding, Reached, Finished}
-use Rattle.tk_host.specs.Held.{Call, End, LineAt, Start, Held, Hosted, after_line, given_by, held_after, held_in, lines_after, phase_after, reached}
+use Rattle.tk_host.specs.Held.{Call, End, LineAt, Start, HostState, Hosted, after_line, given_by, held_after, held_in, lines_after, phase_after, reached}
 use Rattle.tk_host.specs.Refusals.{PhaseRefuses, RefusesLine, RefusesMoment, line_faults, moment_faults, start_faults}
 use Rattle.tk_session.specs.Session.{MayHappen, line_of, moment_at, newest_first, rects_of}
 use Rattle.tk_session.specs.declared.session.AppBlock.{AppBlock}
@@ -53,38 +53,38 @@ lining-phase M earlier (event ∷ events) = lining-phase M (line_of event ∷ ea
 module _ {M : Type 0} (answer : M → Meaning) where
   -- ── the start ──
 
-  pub none_refuses_start : (apps : List AppBlock) (lists : List (List (List ℕ × M))) (held : Held M) → held ≡ held_after answer (adding apps lists) → NoneApplies (PhaseRefuses held.phase) start_faults
+  pub none_refuses_start : (apps : List AppBlock) (lists : List (List (List ℕ × M))) (held : HostState M) → held ≡ held_after answer (adding apps lists) → NoneApplies (PhaseRefuses held.phase) start_faults
   none_refuses_start apps lists held is =
-      subst (λ (h : Held M). NoneApplies (PhaseRefuses h.phase) start_faults) (sym (is ∙ held-adding answer apps lists)) (λ refuses. refuses, (λ refuses. refuses, (λ refuses. refuses, tt)))
+      subst (λ (h : HostState M). NoneApplies (PhaseRefuses h.phase) start_faults) (sym (is ∙ held-adding answer apps lists)) (λ refuses. refuses, (λ refuses. refuses, (λ refuses. refuses, tt)))
 
   held-started : (apps : List AppBlock) (lists : List (List (List ℕ × M))) → held_after answer (adding apps lists ++ Start ∷ []) ≡ held_in answer (Reached 0) (givens apps lists) []
   held-started apps lists =
       held_by answer (adding apps lists ++ Start ∷ []) (Reached 0) (givens apps lists) [] (adding-phase Adding apps lists (Start ∷ []))
       (adding-given apps lists (Start ∷ []) ∙ append-nil (givens apps lists)) (adding-lines [] apps lists (Start ∷ []))
 
-  pub started_phase : (apps : List AppBlock) (lists : List (List (List ℕ × M))) (held : Held M) → held ≡ held_after answer (adding apps lists ++ Start ∷ []) → held.phase ≡ Reached 0
-  started_phase apps lists held is = ap (λ (h : Held M). h.phase) (is ∙ held-started apps lists)
+  pub started_phase : (apps : List AppBlock) (lists : List (List (List ℕ × M))) (held : HostState M) → held ≡ held_after answer (adding apps lists ++ Start ∷ []) → held.phase ≡ Reached 0
+  started_phase apps lists held is = ap (λ (h : HostState M). h.phase) (is ∙ held-started apps lists)
 
-  pub started_known : (apps : List AppBlock) (lists : List (List (List ℕ × M))) (held : Held M) → Serve apps lists → held ≡ held_after answer (adding apps lists ++ Start ∷ []) → held.known ≡ values (rects_of apps) []
-  started_known apps lists held serve is = ap (λ (h : Held M). h.known) (is ∙ held-started apps lists) ∙ ap (λ first. values first []) (givens-rects apps lists serve)
+  pub started_known : (apps : List AppBlock) (lists : List (List (List ℕ × M))) (held : HostState M) → Serve apps lists → held ≡ held_after answer (adding apps lists ++ Start ∷ []) → held.known ≡ values (rects_of apps) []
+  started_known apps lists held serve is = ap (λ (h : HostState M). h.known) (is ∙ held-started apps lists) ∙ ap (λ first. values first []) (givens-rects apps lists serve)
 
   -- ── the events, one after another ──
 
   -- so many have come
-  pub record Came (apps : List AppBlock) (events : List EventLine) (count : ℕ) (start held : Held M) : Type 0 where
+  pub record Came (apps : List AppBlock) (events : List EventLine) (count : ℕ) (start held : HostState M) : Type 0 where
     pub phase : held.phase ≡ Reached (moment_at (take count events))
     pub known : held.known ≡ values (rects_of apps) (newest_first (take count events))
     pub may : MayHappen apps (take count events) (drop count events)
     pub history : (calls : List (Call M)) → start ≡ held_after answer calls → held ≡ held_after answer (calls ++ lining (take count events))
 
-  pub came_none : (apps : List AppBlock) (events : List EventLine) (held : Held M) → held.phase ≡ Reached 0 → held.known ≡ values (rects_of apps) [] → MayHappen apps [] events → Came apps events 0 held held
+  pub came_none : (apps : List AppBlock) (events : List EventLine) (held : HostState M) → held.phase ≡ Reached 0 → held.known ≡ values (rects_of apps) [] → MayHappen apps [] events → Came apps events 0 held held
   came_none apps events held phase known may =
       record { phase = phase; known = known; may = may; history = λ calls is. is ∙ ap (held_after answer) (sym (append-nil calls)) }
 
-  pub may_line : (apps : List AppBlock) (events : List EventLine) (count : ℕ) (start held : Held M) → Came apps events count start held → held.phase ≢ Adding
+  pub may_line : (apps : List AppBlock) (events : List EventLine) (count : ℕ) (start held : HostState M) → Came apps events count start held → held.phase ≢ Adding
   may_line apps events count start held came e = let wrong : Reached (moment_at (take count events)) ≡ Adding = sym came.phase ∙ e in cc
 
-  module _ (apps : List AppBlock) (events : List EventLine) (count : ℕ) (start : Held M) (held : Held M) (came : Came apps events count start held) (event : EventLine)
+  module _ (apps : List AppBlock) (events : List EventLine) (count : ℕ) (start : HostState M) (held : HostState M) (came : Came apps events count start held) (event : EventLine)
       (within : count < length events) (is : event ≡ get_or events count event) where
     next_events : drop count events ≡ event ∷ drop (count + 1) events
     next_events = drop-cons events count event within ∙ ap (λ a. a ∷ drop (suc count) events) (sym is) ∙ ap (λ n. event ∷ drop n events) (let e : suc count ≡ count + 1 = omega arith in e)
@@ -130,7 +130,7 @@ module _ {M : Type 0} (answer : M → Meaning) where
           ∙ ap (λ rest. calls ++ rest) (sym (lining-push (take count events) event) ∙ ap (λ front. lining front) (sym one_more)));
     }
 
-  pub all_came : (apps : List AppBlock) (events : List EventLine) (start held : Held M) → Came apps events (length events) start held
+  pub all_came : (apps : List AppBlock) (events : List EventLine) (start held : HostState M) → Came apps events (length events) start held
       → (calls : List (Call M)) → start ≡ held_after answer calls → held ≡ held_after answer (calls ++ lining events)
   all_came apps events start held came calls begun = came.history calls begun ∙ ap (λ front. held_after answer (calls ++ lining front)) (take-length events)
 
@@ -147,9 +147,9 @@ module _ {M : Type 0} (answer : M → Meaning) where
       ∙ held_by answer (adding apps lists ++ calls) (Reached (moment_at events)) (givens apps lists) (newest_first events) (adding-phase Adding apps lists calls ∙ there)
       (adding-given apps lists calls ∙ ap (λ rest. givens apps lists ++ rest) nothing ∙ append-nil (givens apps lists)) (adding-lines [] apps lists calls ∙ said)
 
-  module _ (apps : List AppBlock) (lists : List (List (List ℕ × M))) (events : List EventLine) (held : Held M) (told : held ≡ held_after answer ((adding apps lists ++ Start ∷ []) ++ lining events)) where
+  module _ (apps : List AppBlock) (lists : List (List (List ℕ × M))) (events : List EventLine) (held : HostState M) (told : held ≡ held_after answer ((adding apps lists ++ Start ∷ []) ++ lining events)) where
     told_phase : held.phase ≡ Reached (moment_at events)
-    told_phase = ap (λ (h : Held M). h.phase) (told ∙ held-told apps lists events)
+    told_phase = ap (λ (h : HostState M). h.phase) (told ∙ held-told apps lists events)
 
     pub may_end : held.phase ≢ Adding
     may_end e = let wrong : Reached (moment_at events) ≡ Adding = sym told_phase ∙ e in cc

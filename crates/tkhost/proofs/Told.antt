@@ -17,7 +17,7 @@ use Rattle.tk_route.specs.declared.fault.LineFault.TheVariants.{Broken}
 use Rattle.tk_host.specs.declared.phase.Phase.{Phase}
 use Rattle.tk_host.specs.declared.phase.Phase.TheVariants.{Adding, Reached, Finished, Lost}
 use Rattle.tk_host.specs.Alone.{alone, alone_by}
-use Rattle.tk_host.specs.Held.{Held, held_after, parts_in}
+use Rattle.tk_host.specs.Held.{HostState, held_after, parts_in}
 use Rattle.tk_route.specs.Refusals.{NoneApplies}
 use Rattle.tk_host.specs.Refusals.{RefusesSection, PhaseRefuses, section_faults}
 use Rattle.tk_host.specs.Spec.{rect_of}
@@ -43,7 +43,7 @@ module _ {M : Type 0} where
       rw numbers (ap (λ rest. section_of part ++ rest) (next_section parts slot bytes is) ∙ sym (append_assoc (section_of part) (flat_map section_of (take slot parts)) bytes))
 
   -- a host that memory wasn't refused to tells the section of each of its slots
-  pub none_refuses_section : (held : Held M) (slot : ℕ) → held.phase ≢ Lost → slot < length held.parts → NoneApplies (RefusesSection held slot) section_faults
+  pub none_refuses_section : (held : HostState M) (slot : ℕ) → held.phase ≢ Lost → slot < length held.parts → NoneApplies (RefusesSection held slot) section_faults
   none_refuses_section held slot whole within = (λ refuses. by held.phase refl refuses, (λ refuses. omega (arith, refuses, within), tt))
     where
       by : (phase : Phase) → held.phase ≡ phase → PhaseRefuses phase Broken → ⊥
@@ -69,18 +69,18 @@ module _ {M : Type 0} (answer : M → Meaning) where
   count_from end first lines slot (app ∷ apps) [] serve = absurd serve
   count_from end first lines slot (app ∷ apps) (aliases ∷ lists) serve = ap suc (count_from end first lines (slot + 1) apps lists serve.1)
 
-  pub played_whole : (plan : Plan) (lists : List (List (List ℕ × M))) (held : Held M) → held ≡ held_after answer (calls_of plan lists) → held.phase ≢ Lost
-  played_whole plan lists held is e = let wrong : Finished plan.end ≡ Lost = sym (ap (λ (h : Held M). h.phase) (is ∙ held-played answer plan.apps lists plan.events plan.end)) ∙ e in cc
+  pub played_whole : (plan : Plan) (lists : List (List (List ℕ × M))) (held : HostState M) → held ≡ held_after answer (calls_of plan lists) → held.phase ≢ Lost
+  played_whole plan lists held is e = let wrong : Finished plan.end ≡ Lost = sym (ap (λ (h : HostState M). h.phase) (is ∙ held-played answer plan.apps lists plan.events plan.end)) ∙ e in cc
 
-  pub played_count : (plan : Plan) (lists : List (List (List ℕ × M))) (held : Held M) → Serve plan.apps lists → held ≡ held_after answer (calls_of plan lists) → length plan.apps ≡ length held.parts
+  pub played_count : (plan : Plan) (lists : List (List (List ℕ × M))) (held : HostState M) → Serve plan.apps lists → held ≡ held_after answer (calls_of plan lists) → length plan.apps ≡ length held.parts
   played_count plan lists held serve is =
-      sym (ap (λ (h : Held M). length h.parts) (is ∙ held-played answer plan.apps lists plan.events plan.end)
+      sym (ap (λ (h : HostState M). length h.parts) (is ∙ held-played answer plan.apps lists plan.events plan.end)
       ∙ count_from plan.end (map rect_of (givens plan.apps lists)) (newest_first plan.events) 0 plan.apps lists serve)
 
-  pub played_sections : (plan : Plan) (lists : List (List (List ℕ × M))) (held : Held M) → Serve plan.apps lists → held ≡ held_after answer (calls_of plan lists)
+  pub played_sections : (plan : Plan) (lists : List (List (List ℕ × M))) (held : HostState M) → Serve plan.apps lists → held ≡ held_after answer (calls_of plan lists)
       → flat_map section_of held.parts ≡ sections_of answer plan lists
   played_sections plan lists held serve is =
-      ap (λ (h : Held M). flat_map section_of h.parts) (is ∙ held-played answer plan.apps lists plan.events plan.end)
+      ap (λ (h : HostState M). flat_map section_of h.parts) (is ∙ held-played answer plan.apps lists plan.events plan.end)
       ∙ told_from plan.end (map rect_of (givens plan.apps lists)) (newest_first plan.events) 0 plan.apps lists
       ∙ ap (λ first. flat_map (λ bytes. bytes) (sections_from answer plan.end first (newest_first plan.events) 0 (specs_of plan.apps lists))) (givens-rects plan.apps lists serve)
 

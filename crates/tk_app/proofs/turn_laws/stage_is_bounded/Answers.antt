@@ -1,5 +1,5 @@
 use Rattle.std.proofs.Common.{arith, map}
-use Rattle.tk_app.specs.Stages.{settled_at, used_at}
+use Rattle.tk_app.specs.Stages.{settled_if_due_at, used_at}
 use Rattle.tk_app.proofs.Shares.{steps_in_turns, sum_used}
 use Rattle.tk_app.proofs.turn_laws.stage_is_bounded.Goals as goal
 
@@ -8,5 +8,5 @@ returns g c = λ next_due settled steps_left slice moment parts positive.
     omega (
       arith,
       steps_in_turns slice (map (used_at next_due settled steps_left moment) parts) positive,
-      sum_used steps_left (λ part. steps_left (settled_at next_due settled moment part)) parts,
+      sum_used steps_left (λ part. steps_left (settled_if_due_at next_due settled moment part)) parts,
     )

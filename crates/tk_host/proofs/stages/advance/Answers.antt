@@ -1,5 +1,5 @@
 use Rattle.std.proofs.Common.{refl, sym, ap, ◌∙◌, subst}
-use Rattle.tk_app.specs.Stages.{IsPast, first_due}
+use Rattle.tk_app.specs.Stages.{IsPast, first_moment_due}
 use Rattle.tk_app.specs.Application.{next_due}
 use Rattle.tk_app.specs.Moments.{settled}
 use Rattle.tk_app.specs.Turns.{Applications}
@@ -20,7 +20,7 @@ pub returns-then-due-target : goal.returns-then-due-target
 returns-then-due-target g c =
     let way = c.moments.invariant.way in
     let here = c.moments.shared in
-    let past : IsPast c.args.target (first_due next_due (settled g.M.AliasMeaning.answer) (applications here.parts)) = subst (IsPast c.args.target) c.in-Some.ensures c.if-due-target.true in
+    let past : IsPast c.args.target (first_moment_due next_due (settled g.M.AliasMeaning.answer) (applications here.parts)) = subst (IsPast c.args.target) c.in-Some.ensures c.if-due-target.true in
     record {
       brought = way_brought g.M.AliasMeaning.answer c.args.slice c.args.target c.args.shared.now here way past;
       rest = way.rest;
@@ -53,7 +53,7 @@ pub returns : goal.returns
 returns g c =
     let way = c.moments.invariant.way in
     let here = c.moments.shared in
-    let past : IsPast c.args.target (first_due next_due (settled g.M.AliasMeaning.answer) (applications here.parts)) = subst (IsPast c.args.target) c.in_default.ensures tt in
+    let past : IsPast c.args.target (first_moment_due next_due (settled g.M.AliasMeaning.answer) (applications here.parts)) = subst (IsPast c.args.target) c.in_default.ensures tt in
     record {
       brought = way_brought g.M.AliasMeaning.answer c.args.slice c.args.target c.args.shared.now here way past;
       rest = way.rest;

@@ -1,11 +1,11 @@
 use Rattle.std.proofs.Common.{◌≡◌, length}
-use Rattle.tk_panel.specs.Changes.{with_changes}
+use Rattle.tk_panel.specs.Changes.{with_events_of}
 use Rattle.tk_panel.specs.Panel.{LeavesOthers, panel_of}
 use Rattle.tk_panel.proofs.changes.queue_changes.Given as goal
 
 abbrev pub invariant-loop-change : goal.invariant-loop-change
 invariant-loop-change l = record {
-  same : with_changes l.rest (panel_of l.slot l.tables) ≡ with_changes l.fn.changes (panel_of l.slot l.fn.tables);
+  same : with_events_of l.rest (panel_of l.slot l.tables) ≡ with_events_of l.fn.changes (panel_of l.slot l.fn.tables);
   others : LeavesOthers l.slot l.fn.tables l.tables;
 }
 

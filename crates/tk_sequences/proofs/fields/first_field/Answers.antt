@@ -1,7 +1,8 @@
 use Rattle.std.proofs.Common.{◌≡◌, ◌∷◌, [], ℕ, List, ap, sym, ◌∙◌, subst, length, take, drop, ◌<◌, ◌-◌, arith}
 use Rattle.std.specs.List.{prefix_len, position_or_len}
 use Rattle.std.specs.Str.{IsCharBoundary}
-use Rattle.tk_sequences.specs.Reading.{fields, is_separator}
+use Rattle.tk_sequences.specs.Reading.{fields}
+use Rattle.tk_sequences.specs.Words.{is_separator}
 use Rattle.tk_sequences.proofs.FieldLemmas.{fields-skip, skipped, fields-none, fields-some, skip_boundary, stop_boundary}
 use Rattle.tk_sequences.proofs.fields.first_field.Goals as goal
 

@@ -1,6 +1,6 @@
 use Rattle.std.proofs.Common.{◌≡◌, ℕ, List, Bool, true, nat_lt, length, sym, ap, ◌∙◌, arith, ◌&&◌}
 use Rattle.std.proofs.lemmas.Bool.Decides.{nat_tests}
-use Rattle.tk_sequences.specs.Reading.{has_no_closing}
+use Rattle.tk_sequences.specs.Words.{has_no_closing}
 use Rattle.tk_sequences.proofs.virtual_name.is_name.Goals as goal
 
 pub returns-then-not-is_empty : goal.returns-then-not-is_empty

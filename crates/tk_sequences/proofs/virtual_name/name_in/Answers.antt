@@ -1,6 +1,6 @@
 use Rattle.std.proofs.Common.{◌≡◌, ◌++◌, ℕ, List, drop, false, true, sym, ap, ◌∙◌}
 use Rattle.std.specs.Prelude.{codes}
-use Rattle.tk_sequences.specs.Reading.{in_brackets, is_name}
+use Rattle.tk_sequences.specs.Words.{in_brackets, is_name}
 use Rattle.tk_sequences.proofs.NameLemmas.{name_in_some, name_in_none, name_in_false}
 use Rattle.tk_sequences.proofs.virtual_name.name_in.Goals as goal
 

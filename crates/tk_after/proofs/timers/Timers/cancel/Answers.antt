@@ -1,5 +1,5 @@
 use Rattle.std.proofs.Common.{◌≡◌, None, refl, sym, ap, ◌∙◌, subst, option_map}
-use Rattle.tk_after.specs.declared.entry.Entry.{Entry}
+use Rattle.tk_after.specs.declared.waiting.WaitingScript.{WaitingScript}
 use Rattle.tk_after.specs.Timers.{Held, own_of, entries_of, entry_with, without}
 use Rattle.tk_after.proofs.Kept.{removed}
 use Rattle.tk_after.proofs.Told.{marked, nothing_out, rising_in, there, unlisted}
@@ -73,4 +73,4 @@ returns-clause-script c =
     let rising = rising_in stored rows counters c.args.owner c.self.invariant in
     let is_marked = marked stored rows counters c.args.owner c.self.invariant c.args.id c.in_ok-due.due c.due_of.result c.due_of.ensures c.in_ok-due.was in
     let found = sym (c.take.ensures.entry rising is_marked) ∙ c.in_ok-entry.was in
-    ap (option_map (λ (entry : Entry). entry.script)) (sym found) ∙ ap (λ (held : Held). option_map (λ (entry : Entry). entry.script) (entry_with c.args.id (entries_of c.args.owner held))) c.self.view_is
+    ap (option_map (λ (entry : WaitingScript). entry.script)) (sym found) ∙ ap (λ (held : Held). option_map (λ (entry : WaitingScript). entry.script) (entry_with c.args.id (entries_of c.args.owner held))) c.self.view_is

@@ -1,6 +1,6 @@
 use Rattle.std.proofs.Common.{sym, ap, ◌∙◌, option_map}
 use Rattle.std.proofs.lemmas.Option.{none-some}
-use Rattle.tk_after.specs.declared.entry.Entry.{Entry}
+use Rattle.tk_after.specs.declared.waiting.WaitingScript.{WaitingScript}
 use Rattle.tk_after.specs.Timers.{own_of, entries_of}
 use Rattle.tk_after.proofs.Dues.{first_due-none}
 use Rattle.tk_after.proofs.Told.{first_is, first_script, first_taken, none_first}
@@ -14,17 +14,17 @@ returns-in_err-id-clause-none c =
 pub returns-in_err-script-clause-taken : goal.returns-in_err-script-clause-taken
 returns-in_err-script-clause-taken c =
     let first = first_is c.args.moment (own_of c.args.owner c.args.self.now) c.first_due.ensures.kept c.in_ok-id.id c.first_due.result c.first_due.ensures.first c.in_ok-id.was in
-    absurd (none-some _ (sym c.in_err-script.was ∙ c.cancel.ensures.script ∙ ap (option_map (λ (entry : Entry). entry.script)) first.listed))
+    absurd (none-some _ (sym c.in_err-script.was ∙ c.cancel.ensures.script ∙ ap (option_map (λ (entry : WaitingScript). entry.script)) first.listed))
 
 pub returns-in_err-script-clause-none : goal.returns-in_err-script-clause-none
 returns-in_err-script-clause-none c =
     let first = first_is c.args.moment (own_of c.args.owner c.args.self.now) c.first_due.ensures.kept c.in_ok-id.id c.first_due.result c.first_due.ensures.first c.in_ok-id.was in
-    absurd (none-some _ (sym c.in_err-script.was ∙ c.cancel.ensures.script ∙ ap (option_map (λ (entry : Entry). entry.script)) first.listed))
+    absurd (none-some _ (sym c.in_err-script.was ∙ c.cancel.ensures.script ∙ ap (option_map (λ (entry : WaitingScript). entry.script)) first.listed))
 
 pub returns-in_err-script-clause-own : goal.returns-in_err-script-clause-own
 returns-in_err-script-clause-own c =
     let first = first_is c.args.moment (own_of c.args.owner c.args.self.now) c.first_due.ensures.kept c.in_ok-id.id c.first_due.result c.first_due.ensures.first c.in_ok-id.was in
-    absurd (none-some _ (sym c.in_err-script.was ∙ c.cancel.ensures.script ∙ ap (option_map (λ (entry : Entry). entry.script)) first.listed))
+    absurd (none-some _ (sym c.in_err-script.was ∙ c.cancel.ensures.script ∙ ap (option_map (λ (entry : WaitingScript). entry.script)) first.listed))
 
 pub returns-clause-taken : goal.returns-clause-taken
 returns-clause-taken c =

@@ -1,5 +1,5 @@
 use Rattle.std.proofs.Common.{◌++◌, ◌<◌, set, ap, ◌∙◌, subst, length, arith, true, false}
-use Rattle.tk_app.specs.Rounds.{entry}
+use Rattle.tk_app.specs.Rounds.{one_turn}
 use Rattle.tk_panel.specs.Panel.{panel_of}
 use Rattle.tk_app.specs.Turns.{Applications, ChangesOnly, Program, SettlesSlot, part_of, parts_from}
 use Rattle.tk_app.proofs.Slots.{in_range}
@@ -91,6 +91,6 @@ returns-clause-settled g c =
       was = one_was i old.tables new.tables old.runners.items r new.runner c.shared.invariant.0 lt c.index_mut-runner.ensures.value c.take_turn.ensures.others;
       changed = one_changed i old.tables new.tables old.runners.items r new.runner c.shared.invariant.0 lt c.index_mut-runner.ensures.value c.take_turn.ensures.others;
       turn = turn;
-      told = c.take_turn.ensures.told ∙ ap (λ n. old.turns.items ++ entry i n) turn.taken;
+      told = c.take_turn.ensures.told ∙ ap (λ n. old.turns.items ++ one_turn i n) turn.taken;
       moment = c.take_turn.ensures.clock;
     })

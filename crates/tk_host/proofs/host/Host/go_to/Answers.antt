@@ -1,6 +1,6 @@
 use Rattle.std.proofs.Common.{◌≡◌, ◌≤◌, arith, sym, ap, ◌∙◌, subst}
 use Rattle.std.proofs.lemmas.Result.{err_from_is_err_and}
-use Rattle.tk_app.specs.Stages.{IsPast, first_due}
+use Rattle.tk_app.specs.Stages.{IsPast, first_moment_due}
 use Rattle.tk_app.specs.Application.{next_due}
 use Rattle.tk_app.specs.Moments.{settled}
 use Rattle.tk_app.specs.Turns.{Applications}
@@ -31,7 +31,7 @@ advance-requires g c =
       slice = c.self.invariant.0;
       in_time = omega (arith, none.1.1.0);
       rest = subst (λ (h : Applications _). AllRest h.parts) (sym clear) ready.1;
-      past = subst (λ (h : Applications _). IsPast h.moment (first_due next_due (settled g.M.AliasMeaning.answer) (applications h.parts))) (sym clear) ready.2;
+      past = subst (λ (h : Applications _). IsPast h.moment (first_moment_due next_due (settled g.M.AliasMeaning.answer) (applications h.parts))) (sym clear) ready.2;
       ahead = omega (arith, ap (λ (h : Applications _). h.moment) clear, ready.0, ahead);
     }
 

@@ -1,6 +1,6 @@
 use Rattle.std.proofs.Common.{◌≡◌, ◌≤◌, ◌<◌, arith, sym, ap, ◌∙◌, subst}
 use Rattle.std.proofs.lemmas.Result.{on_err_weaker}
-use Rattle.tk_app.specs.Stages.{IsPast, first_due}
+use Rattle.tk_app.specs.Stages.{IsPast, first_moment_due}
 use Rattle.tk_route.specs.Lines.{at}
 use Rattle.tk_route.specs.Routes.{deliveries}
 use Rattle.tk_app.specs.Application.{next_due}
@@ -45,7 +45,7 @@ advance-requires g c =
       slice = c.self.invariant.0;
       in_time = omega (arith, in_time);
       rest = subst (λ (h : Applications _). AllRest h.parts) (sym clear) ready.1;
-      past = subst (λ (h : Applications _). IsPast h.moment (first_due next_due (settled g.M.AliasMeaning.answer) (applications h.parts))) (sym clear) ready.2;
+      past = subst (λ (h : Applications _). IsPast h.moment (first_moment_due next_due (settled g.M.AliasMeaning.answer) (applications h.parts))) (sym clear) ready.2;
       ahead = omega (arith, ap (λ (h : Applications _). h.moment) clear, ready.0, ahead);
     }
 
@@ -86,7 +86,7 @@ invariant_of-self-2 g c =
       ready_line answer c.args.moment after.moment (deliveries c.tested_line-routed.result) (applications c.set_moment.new.self.parts) after.parts
           (told.moment ∙ ap (λ (h : Applications _). h.moment) moved) told.parts
           (subst (AreAt c.args.moment) (sym given) (routes_at known.1 known.2 (at c.args.moment c.args.line)))
-          (subst (λ (h : Applications _). IsPast c.args.moment (first_due next_due (settled answer) (applications h.parts))) (sym moved) c.in_ok-advance.ensures.through),
+          (subst (λ (h : Applications _). IsPast c.args.moment (first_moment_due next_due (settled answer) (applications h.parts))) (sym moved) c.in_ok-advance.ensures.through),
       routed_line c.self.inside.rects.items known.1 known.2 (at c.args.moment c.args.line) c.tested_line-routed.new.self after.parts (c.tested_line-routed.ensures.values known.1 known.2 known.3),
     )
 

@@ -1,7 +1,7 @@
 use Rattle.std.proofs.Common.{sym, ap, ◌∙◌}
 use Rattle.std.specs.Prelude.{nat_eq}
 use Rattle.std.specs.Map.{lookup}
-use Rattle.tk_packer.specs.Packs.{Own, slaves_of}
+use Rattle.tk_packer.specs.Packs.{Packing, slaves_of}
 use Rattle.tk_packer.proofs.Ties.{slaves_are}
 use Rattle.tk_packer.proofs.own.OwnPacks.slaves.Goals as goal
 
@@ -9,4 +9,4 @@ pub returns : goal.returns
 returns c =
     c.slaves_at.ensures
     ∙ sym (slaves_are (λ number. lookup (nat_eq number) c.self.inside.windows.entries) c.self.inside.masters.entries c.self.invariant c.args.master)
-    ∙ ap (λ (own : Own). slaves_of c.args.master own.packs) c.self.view_is
+    ∙ ap (λ (own : Packing). slaves_of c.args.master own.packs) c.self.view_is

@@ -4,7 +4,7 @@ use tcl_text::Text;
 
 /// A timer or an idle script that waits.
 #[derive(Drop)]
-pub struct Entry {
+pub struct WaitingScript {
     /// Its number among those of its application: `after#N` to scripts.
     pub id: u64,
     /// The moment at which it is due, in milliseconds; none for an idle script.
@@ -13,7 +13,7 @@ pub struct Entry {
     pub script: Text,
 }
 
-impl Entry {
+impl WaitingScript {
     ghost use Rattle.std.specs.Str.{bytes_eq};
 
     /// Whether these characters are its script.

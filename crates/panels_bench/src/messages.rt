@@ -1,5 +1,11 @@
 //! What isn't as it has to be, in words.
 
+ghost use Rattle.std.specs.Prelude.{◌≡◌, ◌≤◌, length, IfOk};
+ghost use Rattle.std.specs.String.{string_bytes};
+ghost use Rattle.panels_bench.specs.Messages.{IsToldOf};
+ghost use Rattle.panels_bench.specs.Slots.{line_count, slot_at, slot_of_act, slot_of_finding};
+ghost use Rattle.panels_text.specs.Places.{count_breaks};
+
 use panels::{
     Act, Answer, Bench, Entry, Fact, Finding, Found, Gesture, Look, Miss, Pointing, Question,
 };
@@ -241,7 +247,9 @@ fn unseen(alloc: Global, look: &Look, finding: &Finding) -> Result<String, Alloc
 }
 
 /// The slot of the panel that an entry is for, if it is for one.
-fn slot_of(entry: &Entry) -> Option<usize> {
+fn slot_of(entry: &Entry) -> Option<usize>
+    ensures { result ≡ slot_of_act entry.now.act }
+{
     match &entry.act {
         Act::Do(Gesture::Pointer(pointing)) => Some(pointing.target.slot),
         Act::Do(Gesture::Keys(_)) | Act::Do(Gesture::Lines(_)) => None,
@@ -250,7 +258,9 @@ fn slot_of(entry: &Entry) -> Option<usize> {
 }
 
 /// The slot of the panel that a finding is of, if it is of one.
-pub fn slot_of_finding(bench: &Bench, finding: &Finding) -> Option<usize> {
+pub fn slot_of_finding(bench: &Bench, finding: &Finding) -> Option<usize>
+    ensures { result ≡ slot_of_finding bench.now finding.now }
+{
     slot_of(bench.entries.as_slice().get(finding.entry)?)
 }
 
@@ -277,7 +287,9 @@ pub fn told(
     bench: &Bench,
     lines: &[usize],
     finding: &Finding,
-) -> Result<String, AllocError> {
+) -> Result<String, AllocError>
+    ensures { IfOk result (λ text. IsToldOf bench.now lines.now finding.now (string_bytes text)) }
+{
     let line = lines.get(finding.entry).copied().unwrap_or(0);
     match bench.entries.as_slice().get(finding.entry) {
         None => Ok(String::new(alloc)),
@@ -288,31 +300,37 @@ pub fn told(
     }
 }
 
-/// How many lines of a session a panel takes.
-fn line_count(panel: &AppBlock) -> usize {
-    let breaks = panel
-        .script
-        .as_str()
-        .as_bytes()
-        .iter()
-        .filter(|byte| **byte == b'\n')
-        .count();
-    panel
-        .aliases
-        .as_slice()
-        .len()
-        .saturating_add(3)
-        .saturating_add(breaks)
+/// How many bytes are line feeds.
+fn count_breaks(bytes: &[u8]) -> usize
+    ensures breaks { result ≡ count_breaks bytes.now }
+    ensures most { result ≤ length bytes.now }
+{
+    bytes.iter().filter(|byte| **byte == b'\n').count()
 }
 
-/// The slot of the panel that has a line of the session.
-pub fn slot_at(panels: &[AppBlock], line: usize) -> usize {
-    let mut last = 1usize;
+/// How many lines of a session a panel takes.
+fn line_count(panel: &AppBlock) -> usize
+    ensures { result ≡ line_count panel.now }
+{
+    let script = panel.script.as_str().as_bytes();
+    let _short = script.len();
+    let aliases = panel.aliases.as_slice().len();
+    aliases
+        .saturating_add(3)
+        .saturating_add(count_breaks(script))
+}
+
+/// The slot of the panel that has a line of the session, counted from 1; as many as there are panels where none has it.
+pub fn slot_at(panels: &[AppBlock], line: usize) -> usize
+    ensures { result ≡ slot_at panels.now line }
+{
+    let mut left = line.saturating_sub(1);
     for (slot, panel) in panels.iter().enumerate() {
-        last = last.saturating_add(line_count(panel));
-        if line <= last {
+        let count = line_count(panel);
+        if left <= count {
             return slot;
         }
+        left = left.saturating_sub(count);
     }
     panels.len()
 }

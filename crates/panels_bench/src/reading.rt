@@ -1,5 +1,9 @@
 //! How a bench is read.
 
+ghost use Rattle.std.specs.Prelude.{◌≡◌, ◌≤◌, length, IfOk};
+ghost use Rattle.panels_bench.specs.Benches.{IsMoment, IsRead, IsReadOf, most_moment};
+ghost use Rattle.toml.specs.View.{table_view};
+
 use crate::doing::gestures;
 use crate::seeing::act;
 use crate::sides::{Side, sides};
@@ -51,7 +55,11 @@ fn not_toml(alloc: Global, file: &str, text: &str, error: &Error) -> Failure {
 }
 
 /// The moment of an entry, by `time`, or by `after` from the one above; that of the end where neither is said.
-fn moment(alloc: Global, part: &Part<'_>, before: u64, end: u64) -> Result<u64, Failure> {
+fn moment(alloc: Global, part: &Part<'_>, before: u64, end: u64) -> Result<u64, Failure>
+    requires before { before ≤ end }
+    requires end { end ≤ most_moment }
+    ensures { IfOk result (IsMoment part.now before end) }
+{
     let time = part.number(alloc, "time", MAX_MOMENT)?;
     let after = part.number(alloc, "after", MAX_MOMENT)?;
     let moment = match (time, after) {
@@ -108,7 +116,9 @@ fn push_deeds(
     parts: &[Part<'_>],
     bench: &Bench,
     placed: &mut Vec<Placed>,
-) -> Result<(), Failure> {
+) -> Result<(), Failure>
+    requires { bench.now.end ≤ most_moment }
+{
     let mut before = 0;
     for part in parts {
         if !part.has("time") && !part.has("after") {
@@ -127,7 +137,9 @@ fn push_sights(
     parts: &[Part<'_>],
     bench: &Bench,
     placed: &mut Vec<Placed>,
-) -> Result<(), Failure> {
+) -> Result<(), Failure>
+    requires { bench.now.end ≤ most_moment }
+{
     let mut before = 0;
     for part in parts {
         before = moment(alloc, part, before, bench.end)?;
@@ -137,8 +149,42 @@ fn push_sights(
     Ok(())
 }
 
+/// What happens on a bench, in the order of the moments: what is done at a moment comes before what is seen then. The line of each, and the entry.
+fn placed_entries(
+    alloc: Global,
+    root: &Part<'_>,
+    bench: &Bench,
+) -> Result<(Vec<usize>, Vec<Entry>), Failure>
+    requires { bench.now.end ≤ most_moment }
+    ensures { IfOk result (λ read. length read.0.items ≡ length read.1.items) }
+{
+    let mut placed = Vec::new(alloc);
+    push_deeds(
+        alloc,
+        root.entries(alloc, "do")?.as_slice(),
+        bench,
+        &mut placed,
+    )?;
+    push_sights(
+        alloc,
+        root.entries(alloc, "see")?.as_slice(),
+        bench,
+        &mut placed,
+    )?;
+    placed.sort_by_key(|placed| placed.entry.moment)?;
+    let mut lines = Vec::new(alloc);
+    let mut entries = Vec::new(alloc);
+    for placed in placed {
+        lines.push(placed.line)?;
+        entries.push(placed.entry)?;
+    }
+    Ok((lines, entries))
+}
+
 /// What the table of a bench says.
-fn read_table<R: Files + AllocGlobal>(rt: &R, root: &Part<'_>) -> Result<Read, Failure> {
+fn read_table<R: Files + AllocGlobal>(rt: &R, root: &Part<'_>) -> Result<Read, Failure>
+    ensures { IfOk result (IsRead (table_view root.now.table.now)) }
+{
     let alloc = rt.alloc();
     root.check_keys(alloc, KEYS.as_slice())?;
     let Some(end) = root.number(alloc, "end", MAX_MOMENT)? else {
@@ -151,18 +197,8 @@ fn read_table<R: Files + AllocGlobal>(rt: &R, root: &Part<'_>) -> Result<Read, F
         entries: Vec::new(alloc),
         end,
     };
-    let mut placed = Vec::new(alloc);
-    let doing = root.entries(alloc, "do")?;
-    push_deeds(alloc, doing.as_slice(), &bench, &mut placed)?;
-    let seeing = root.entries(alloc, "see")?;
-    push_sights(alloc, seeing.as_slice(), &bench, &mut placed)?;
-    // what is done at a moment comes before what is seen then, since that order is kept
-    placed.sort_by_key(|placed| placed.entry.moment)?;
-    let mut lines = Vec::new(alloc);
-    for placed in placed {
-        lines.push(placed.line)?;
-        bench.entries.push(placed.entry)?;
-    }
+    let (lines, entries) = placed_entries(alloc, root, &bench)?;
+    bench.entries = entries;
     Ok(Read {
         bench,
         slice: slice.max(1),
@@ -177,7 +213,9 @@ pub(crate) fn read_bench<R: Files + AllocGlobal>(
     rt: &R,
     file: &str,
     text: &str,
-) -> Result<Read, Failure> {
+) -> Result<Read, Failure>
+    ensures { IfOk result (IsReadOf text.now) }
+{
     let alloc = rt.alloc();
     let table: Table = match toml::table_from_str(alloc, text) {
         Ok(table) => table,

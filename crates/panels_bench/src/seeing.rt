@@ -1,9 +1,9 @@
 //! What has to be seen.
 
 use crate::asking::{push_panel_questions, push_window_questions};
-use crate::sides::{numbers, slot_named};
+use crate::sides::slot_named;
 use panels::{Act, Fact, Look};
-use panels_text::{Failure, Part};
+use panels_text::{Failure, Part, in_range};
 use std::alloc::{AllocError, Global};
 use tk_base::Rect;
 use tk_session::AppBlock;
@@ -73,13 +73,20 @@ fn place(alloc: Global, part: &Part<'_>) -> Result<Option<Rect>, Failure> {
         return Ok(None);
     }
     let wanted = "left, top, width and height, as [56, 16, 68, 28]";
-    let [x, y, width, height] = numbers::<4>(alloc, part, "place", MAX_PLACE, wanted)?;
-    Ok(Some(Rect {
-        x,
-        y,
-        width,
-        height,
-    }))
+    let [x, y, width, height] = part.array(alloc, "place", wanted)? else {
+        return Err(part.refused(alloc, "place", wanted));
+    };
+    let (x, y) = (in_range(x, MAX_PLACE), in_range(y, MAX_PLACE));
+    let (width, height) = (in_range(width, MAX_PLACE), in_range(height, MAX_PLACE));
+    match (x, y, width, height) {
+        (Some(x), Some(y), Some(width), Some(height)) => Ok(Some(Rect {
+            x: x as u32,
+            y: y as u32,
+            width: width as u32,
+            height: height as u32,
+        })),
+        _ => Err(part.refused(alloc, "place", wanted)),
+    }
 }
 
 /// The path of the window that a key is of.

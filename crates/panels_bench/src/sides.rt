@@ -1,5 +1,14 @@
 //! The panels of a bench.
 
+ghost use Rattle.std.specs.Prelude.{◌≡◌, ◌≤◌, Some, option_map, IfErr, IfOk};
+ghost use Rattle.std.specs.String.{string_bytes};
+ghost use Rattle.panels_bench.specs.Messages.{label_of};
+ghost use Rattle.panels_bench.specs.Panels.{ArePanels, IsPair, IsPanel, IsRect, IsSide, is_said};
+ghost use Rattle.panels_text.specs.Tables.{IsRefused, value_of};
+ghost use Rattle.tk_session.specs.Reading.{service_kind};
+ghost use Rattle.toml.specs.Data.{string};
+ghost use Rattle.toml.specs.View.{table_view};
+
 use panels_text::{Failure, Part, file_beside, in_range, plain_script, serving};
 use std::alloc::{AllocError, Global};
 use std::fs;
@@ -50,7 +59,9 @@ pub struct Side {
 }
 
 /// What the script of a panel is told by: its file, or else the bench's with the panel's name.
-pub fn label_of(alloc: Global, file: &str, side: &Side, panel: &str) -> Result<String, AllocError> {
+pub fn label_of(alloc: Global, file: &str, side: &Side, panel: &str) -> Result<String, AllocError>
+    ensures { IfOk result (λ label. string_bytes label ≡ label_of file.now side.now panel.now) }
+{
     match &side.script {
         Some(name) => file_beside(alloc, file, name.as_str()),
         None => format!(in alloc; "{file}, panel {panel}"),
@@ -79,38 +90,37 @@ pub(crate) fn slot_named(
     Err(part.fault(alloc, key, words.as_str()))
 }
 
-/// So many numbers in an array, none larger than `most`.
-pub(crate) fn numbers<const N: usize>(
+/// Two numbers of an array, none larger than `most`.
+fn pair(
     alloc: Global,
     part: &Part<'_>,
     key: &str,
     most: u64,
     wanted: &str,
-) -> Result<[u32; N], Failure> {
-    let values = part.array(alloc, key, wanted)?;
-    let mut numbers = [0; N];
-    if values.len() != N {
-        return Err(part.refused(alloc, key, wanted));
-    }
-    for (place, value) in numbers.iter_mut().zip(values) {
-        match in_range(value, most) {
-            Some(number) => *place = u32::try_from(number).unwrap_or(0),
-            None => return Err(part.refused(alloc, key, wanted)),
+) -> Result<(u64, u64), Failure>
+    ensures pair { IfOk result (λ pair. IsPair most (value_of part.now key.now) pair.0 pair.1 × (pair.0 ≤ most) × (pair.1 ≤ most)) }
+    ensures refused { IfErr result (λ failure. IsRefused part.now key.now wanted.now failure) }
+{
+    if let [one, other] = part.array(alloc, key, wanted)? {
+        if let (Some(one), Some(other)) = (in_range(one, most), in_range(other, most)) {
+            return Ok((one, other));
         }
     }
-    Ok(numbers)
+    Err(part.refused(alloc, key, wanted))
 }
 
 /// The rectangle of `at` and `size`.
-pub(crate) fn rect(alloc: Global, part: &Part<'_>) -> Result<Rect, Failure> {
+pub(crate) fn rect(alloc: Global, part: &Part<'_>) -> Result<Rect, Failure>
+    ensures { IfOk result (λ rect. IsRect (table_view part.now.table.now) rect) }
+{
     let wanted = "two numbers of pixels up to 32767, as [100, 60]";
-    let [x, y] = numbers::<2>(alloc, part, "at", MAX_PIXELS, wanted)?;
-    let [width, height] = numbers::<2>(alloc, part, "size", MAX_PIXELS, wanted)?;
+    let (x, y) = pair(alloc, part, "at", MAX_PIXELS, wanted)?;
+    let (width, height) = pair(alloc, part, "size", MAX_PIXELS, wanted)?;
     Ok(Rect {
-        x,
-        y,
-        width,
-        height,
+        x: x as u32,
+        y: y as u32,
+        width: width as u32,
+        height: height as u32,
     })
 }
 
@@ -157,7 +167,9 @@ pub(crate) fn text_of(
     part: &Part<'_>,
     key: &str,
     text: &str,
-) -> Result<Text, Failure> {
+) -> Result<Text, Failure>
+    ensures { IfOk result (λ copy. copy ≡ text.now) }
+{
     match Text::new(alloc, text) {
         Ok(text) => Ok(text),
         Err(TextFault::TooLong) => Err(part.fault(alloc, key, "this has more than 65536 bytes")),
@@ -166,14 +178,18 @@ pub(crate) fn text_of(
 }
 
 /// A text that has to be there.
-fn needed<'a>(alloc: Global, part: &Part<'a>, key: &str) -> Result<&'a str, Failure> {
+fn needed<'a>(alloc: Global, part: &Part<'a>, key: &str) -> Result<&'a str, Failure>
+    ensures { IfOk result (λ text. value_of part.now key.now ≡ Some (string text.now)) }
+{
     match part.text(alloc, key)? {
         Some(text) => Ok(text),
         None => Err(part.refused(alloc, key, "a text between quotes")),
     }
 }
 
-fn kind_of(word: &str) -> Option<ServiceKind> {
+fn kind_of(word: &str) -> Option<ServiceKind>
+    ensures { result ≡ service_kind word.now }
+{
     match word {
         "const" => Some(ServiceKind::Const),
         "upper" => Some(ServiceKind::Upper),
@@ -238,18 +254,24 @@ fn script<R: Files + AllocGlobal>(rt: &R, part: &Part<'_>) -> Result<Text, Failu
 }
 
 /// Whether a key is true; it isn't where it isn't there.
-fn is_said(alloc: Global, part: &Part<'_>, key: &str) -> Result<bool, Failure> {
+fn is_said(alloc: Global, part: &Part<'_>, key: &str) -> Result<bool, Failure>
+    ensures { IfOk result (λ said. is_said (value_of part.now key.now) ≡ Some said) }
+{
     Ok(part.boolean(alloc, key)?.unwrap_or(false))
 }
 
-fn copied(alloc: Global, text: Option<&str>) -> Result<Option<String>, AllocError> {
+fn copied(alloc: Global, text: Option<&str>) -> Result<Option<String>, AllocError>
+    ensures { IfOk result (λ copy. option_map string_bytes copy ≡ option_map (λ text. text.now) text.entry) }
+{
     match text {
         None => Ok(None),
         Some(text) => Ok(Some(String::from_str(alloc, text)?)),
     }
 }
 
-fn side_of(alloc: Global, part: &Part<'_>) -> Result<Side, Failure> {
+fn side_of(alloc: Global, part: &Part<'_>) -> Result<Side, Failure>
+    ensures { IfOk result (IsSide part.now) }
+{
     Ok(Side {
         line: part.line("name"),
         script: copied(alloc, part.text(alloc, "script")?)?,
@@ -260,7 +282,9 @@ fn side_of(alloc: Global, part: &Part<'_>) -> Result<Side, Failure> {
     })
 }
 
-fn panel<R: Files + AllocGlobal>(rt: &R, part: &Part<'_>) -> Result<AppBlock, Failure> {
+fn panel<R: Files + AllocGlobal>(rt: &R, part: &Part<'_>) -> Result<AppBlock, Failure>
+    ensures { IfOk result (IsPanel (table_view part.now.table.now)) }
+{
     let alloc = rt.alloc();
     part.check_keys(alloc, KEYS.as_slice())?;
     let name = text_of(alloc, part, "name", needed(alloc, part, "name")?)?;
@@ -281,7 +305,9 @@ fn panel<R: Files + AllocGlobal>(rt: &R, part: &Part<'_>) -> Result<AppBlock, Fa
 pub(crate) fn sides<R: Files + AllocGlobal>(
     rt: &R,
     parts: &[Part<'_>],
-) -> Result<(Vec<AppBlock>, Vec<Side>), Failure> {
+) -> Result<(Vec<AppBlock>, Vec<Side>), Failure>
+    ensures { IfOk result (λ read. ArePanels parts.now read.0.items read.1.items) }
+{
     let alloc = rt.alloc();
     let mut panels = Vec::new(alloc);
     let mut sides = Vec::new(alloc);

@@ -1,5 +1,13 @@
 -- What the contracts cite.
+pub mod CommandLine
+pub mod Differences
+pub mod Keys
 pub mod Lines
 pub mod Places
+pub mod Refusals
+pub mod Reports
+pub mod Rows
+pub mod Tables
+pub mod Texts
 pub mod Verdicts
 pub mod Words

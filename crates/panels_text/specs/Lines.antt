@@ -1,5 +1,10 @@
--- Meaning. Names of panels.
-use Rattle.std.specs.Prelude.{ℕ, List, [], slice_get, Option, Some, None}
+-- Meaning. Names of panels, and lines of a session in its own words.
+use Rattle.std.specs.Prelude.{ℕ, List, [], ◌∷◌, ◌++◌, slice_get, codes, Option, Some, None}
+use Rattle.std.specs.Fmt.{decimal}
+use Rattle.tk_base.specs.Names.{name_of}
+use Rattle.tk_route.specs.declared.line.HostLine.{HostLine}
+use Rattle.tk_route.specs.declared.line.HostLine.TheVariants.{Move, Press, Release, Keydown, Keyup, Focus, Rect as Placed}
+use Rattle.tk_session.specs.Session.{rect_fields}
 use Rattle.tk_session.specs.declared.session.AppBlock.{AppBlock}
 
 abbrev pub name_in : Option AppBlock → List ℕ
@@ -9,3 +14,24 @@ name_in (Some panel) = panel.name
 -- the name of the panel in a slot: empty where there is none
 abbrev pub name_at : List AppBlock → ℕ → List ℕ
 name_at panels slot = name_in (slice_get panels slot)
+
+-- the fields of a line behind its moment
+abbrev pub line_fields : List AppBlock → HostLine → List (List ℕ)
+line_fields panels (Move x y) = codes "move" ∷ decimal x ∷ decimal y ∷ []
+line_fields panels (Press button) = codes "press" ∷ decimal button ∷ []
+line_fields panels (Release button) = codes "release" ∷ decimal button ∷ []
+line_fields panels (Keydown key) = codes "keydown" ∷ name_of key ∷ []
+line_fields panels (Keyup key) = codes "keyup" ∷ name_of key ∷ []
+line_fields panels (Focus None) = codes "focus" ∷ codes "-" ∷ []
+line_fields panels (Focus (Some slot)) = codes "focus" ∷ name_at panels slot ∷ []
+line_fields panels (Placed slot rect) = codes "rect" ∷ name_at panels slot ∷ rect_fields rect
+
+-- fields with a blank between two
+abbrev pub spaced : List (List ℕ) → List ℕ
+spaced [] = []
+spaced (field ∷ []) = field
+spaced (field ∷ other ∷ fields) = field ++ 32 ∷ spaced (other ∷ fields)
+
+-- a line without its moment: its fields with a blank between two
+abbrev pub line_words : List AppBlock → HostLine → List ℕ
+line_words panels line = spaced (line_fields panels line)

@@ -1,7 +1,8 @@
 //! What is told of panels, for a person.
 
-ghost use Rattle.std.specs.Prelude.{◌≡◌, IfOk};
+ghost use Rattle.std.specs.Prelude.{◌≡◌, ◌++◌, flat_map, map, IfOk, OnOk};
 ghost use Rattle.std.specs.String.{string_bytes};
+ghost use Rattle.panels_text.specs.Reports.{case_lines, problem_line, report};
 ghost use Rattle.panels_text.specs.Verdicts.{count_failed, title};
 
 use std::alloc::{AllocError, Global};
@@ -28,18 +29,28 @@ pub fn title(alloc: Global, case: &Case) -> Result<String, AllocError>
     }
 }
 
-/// Adds the line of a case, and those of what isn't as it has to be.
-fn push_case(alloc: Global, text: &mut String, case: &Case) -> Result<(), AllocError> {
-    let is_fine = case.problems.is_empty();
-    text.push_str(if is_fine { "ok    " } else { "FAIL  " })?;
-    text.push_str(title(alloc, case)?.as_str())?;
-    text.push_str("\n")?;
-    for problem in &case.problems {
+/// Adds what isn't as it has to be, a line each.
+fn push_problems(text: &mut String, problems: &[String]) -> Result<(), AllocError>
+    ensures { OnOk result (string_bytes text.new ≡ string_bytes text.old ++ flat_map problem_line (map string_bytes problems.now)) }
+{
+    for problem in problems {
         text.push_str("    ")?;
         text.push_str(problem.as_str())?;
         text.push_str("\n")?;
     }
     Ok(())
+}
+
+#[tactic(auto, unfolding(crate::specs::Reports::case_lines))]
+/// Adds the line of a case, and those of what isn't as it has to be.
+fn push_case(alloc: Global, text: &mut String, case: &Case) -> Result<(), AllocError>
+    ensures { OnOk result (string_bytes text.new ≡ string_bytes text.old ++ case_lines case.now) }
+{
+    let is_fine = case.problems.is_empty();
+    text.push_str(if is_fine { "ok    " } else { "FAIL  " })?;
+    text.push_str(title(alloc, case)?.as_str())?;
+    text.push_str("\n")?;
+    push_problems(text, case.problems.as_slice())
 }
 
 /// How many cases aren't as they have to be.
@@ -53,7 +64,9 @@ pub fn count_failed(cases: &[Case]) -> usize
 }
 
 /// A line for each case, what isn't as it has to be, and how many there are.
-pub fn report(alloc: Global, cases: &[Case]) -> Result<String, AllocError> {
+pub fn report(alloc: Global, cases: &[Case]) -> Result<String, AllocError>
+    ensures { IfOk result (λ text. string_bytes text ≡ report cases.now) }
+{
     let mut text = String::new(alloc);
     for case in cases {
         push_case(alloc, &mut text, case)?;

@@ -1,5 +1,10 @@
 //! Keys by their names, and by those that other systems give them.
 
+ghost use Rattle.std.specs.Prelude.{◌≡◌, IfOk, option_map};
+ghost use Rattle.std.specs.String.{string_bytes};
+ghost use Rattle.panels_text.specs.Keys.{OtherwiseTold, here_for, key_words};
+ghost use Rattle.tk_base.specs.Names.{key_of_character};
+
 use crate::nearest::serving;
 use std::alloc::{AllocError, Global};
 use tk_base::Keysym;
@@ -42,51 +47,52 @@ const NAMES: [&str; 34] = [
     "Caps_Lock",
 ];
 
-/// Names that other systems give keys, and those that they have here.
-const OTHERWISE: [(&str, &str); 8] = [
-    ("Enter", "Return"),
-    ("KP_Enter", "Return"),
-    ("Esc", "Escape"),
-    ("Del", "Delete"),
-    ("PageUp", "Prior"),
-    ("PageDown", "Next"),
-    ("Page_Up", "Prior"),
-    ("Page_Down", "Next"),
-];
-
 /// The name that a key has here, by one that another system gives it.
-pub(crate) fn here_for(name: &str) -> Option<&'static str> {
-    for (other, here) in OTHERWISE {
-        if other == name {
-            return Some(here);
-        }
+pub(crate) fn here_for(name: &str) -> Option<&'static str>
+    ensures { option_map (λ here. here.now) result ≡ here_for name.now }
+{
+    match name {
+        "Enter" | "KP_Enter" => Some("Return"),
+        "Esc" => Some("Escape"),
+        "Del" => Some("Delete"),
+        "PageUp" | "Page_Up" => Some("Prior"),
+        "PageDown" | "Page_Down" => Some("Next"),
+        _ => None,
     }
-    None
+}
+
+/// The character of a text that is one.
+fn only_character(text: &str) -> Option<char> {
+    let mut characters = text.chars();
+    let first = characters.next()?;
+    match characters.next() {
+        None => Some(first),
+        Some(_) => None,
+    }
+}
+
+/// What is said of a name that is one character: the name of the key that types it.
+fn key_words(alloc: Global, character: char) -> Result<String, AllocError>
+    ensures { IfOk result (λ text. string_bytes text ≡ key_words (key_of_character character)) }
+{
+    match Keysym::of_character(character) {
+        Some(key) => format!(in alloc; "the name of this key is {}", key.name()),
+        None => String::from_str(
+            alloc,
+            "keys type printing ASCII characters alone, and some have names, as Return and space",
+        ),
+    }
 }
 
 /// What serves in place of a name that no key has. An error where memory is refused.
-pub fn serving_key(alloc: Global, name: &str) -> Result<String, AllocError> {
+pub fn serving_key(alloc: Global, name: &str) -> Result<String, AllocError>
+    ensures { IfOk result (λ text. OtherwiseTold (here_for name.now) (string_bytes text)) }
+{
     if let Some(here) = here_for(name) {
         return format!(in alloc; "did you mean {here}?");
     }
-    if let Some(key) = only_character(name) {
-        return format!(in alloc; "the name of this key is {}", key.name());
+    match only_character(name) {
+        Some(character) => key_words(alloc, character),
+        None => serving(alloc, name, NAMES.as_slice()),
     }
-    if name.chars().count() == 1 {
-        return String::from_str(
-            alloc,
-            "keys type printing ASCII characters alone, and some have names, as Return and space",
-        );
-    }
-    serving(alloc, name, NAMES.as_slice())
-}
-
-/// The key of a text that is one character.
-fn only_character(text: &str) -> Option<Keysym> {
-    let mut characters = text.chars();
-    let first = characters.next()?;
-    if characters.next().is_some() {
-        return None;
-    }
-    Keysym::of_character(first)
 }

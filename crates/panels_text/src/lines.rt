@@ -1,18 +1,12 @@
 //! Lines of a session in its own words.
 
-ghost use Rattle.std.specs.Prelude.{◌≡◌};
-ghost use Rattle.std.specs.Str.{IsUtf8};
-ghost use Rattle.panels_text.specs.Lines.{name_at};
+ghost use Rattle.std.specs.Prelude.{◌≡◌, IfOk};
+ghost use Rattle.std.specs.String.{string_bytes};
+ghost use Rattle.panels_text.specs.Lines.{line_words, name_at};
+ghost use Rattle.tk_session.specs.Writing.{key_name};
 
 use std::alloc::{AllocError, Global};
 use tk_session::{AppBlock, HostLine};
-
-/// A text whose bytes are UTF-8, as those of a section are; empty where they aren't.
-pub fn as_text(bytes: &[u8]) -> &str
-    ensures { IsUtf8 bytes.now → result.now ≡ bytes.now }
-{
-    std::str::from_utf8(bytes).unwrap_or("")
-}
 
 /// The name of the panel in a slot; empty where there is none.
 pub fn name_at(panels: &[AppBlock], slot: usize) -> &str
@@ -25,7 +19,9 @@ pub fn name_at(panels: &[AppBlock], slot: usize) -> &str
 }
 
 /// The name of the key that goes down or up.
-fn key_name(line: HostLine) -> &'static str {
+fn key_name(line: HostLine) -> &'static str
+    ensures { result.now ≡ key_name line }
+{
     match line {
         HostLine::Keydown(key) => key.name(),
         HostLine::Keyup(key) => key.name(),
@@ -34,11 +30,9 @@ fn key_name(line: HostLine) -> &'static str {
 }
 
 /// A line of a session without its moment.
-pub fn line_words(
-    alloc: Global,
-    line: HostLine,
-    panels: &[AppBlock],
-) -> Result<String, AllocError> {
+pub fn line_words(alloc: Global, line: HostLine, panels: &[AppBlock]) -> Result<String, AllocError>
+    ensures { IfOk result (λ text. string_bytes text ≡ line_words panels.now line) }
+{
     match line {
         HostLine::Move { x, y } => format!(in alloc; "move {x} {y}"),
         HostLine::Press(button) => format!(in alloc; "press {button}"),

@@ -1,17 +1,22 @@
 //! Words, and those that may have been meant.
 
-ghost use Rattle.std.specs.Prelude.{◌≡◌, IfOk, IfSome};
-ghost use Rattle.panels_text.specs.Words.{IsKnown, is_known};
+ghost use Rattle.std.specs.Prelude.{◌≡◌, false, true, IfOk, IfSome, MatchOption};
+ghost use Rattle.std.specs.String.{string_bytes};
+ghost use Rattle.panels_text.specs.Words.{IsKnown, Serves, distance, is_known, is_near};
 
+use crate::texts::joined;
 use std::alloc::{AllocError, Global};
 use strsim::levenshtein;
 
+#[tactic(auto, unfolding(crate::specs::Words::distance))]
 /// How many letters are changed to make a word of another, where it is at most two in three of the first.
 pub(crate) fn distance_within(
     alloc: Global,
     word: &str,
     candidate: &str,
-) -> Result<Option<usize>, AllocError> {
+) -> Result<Option<usize>, AllocError>
+    ensures { IfOk result (λ found. MatchOption found (is_near word.now candidate.now ≡ false) (λ number. (is_near word.now candidate.now ≡ true) × (number ≡ distance word.now candidate.now))) }
+{
     let most = (word.len() / 3).saturating_mul(2);
     let distance = levenshtein(alloc, word, candidate)?;
     Ok(if distance <= most {
@@ -42,24 +47,15 @@ pub(crate) fn nearest<'a>(
     Ok(found)
 }
 
-/// Words with a comma between neighbours.
-fn listed(alloc: Global, words: &[&str]) -> Result<String, AllocError> {
-    let mut text = String::new(alloc);
-    for word in words {
-        if !text.is_empty() {
-            text.push_str(", ")?;
-        }
-        text.push_str(word)?;
-    }
-    Ok(text)
-}
-
 /// What would serve in place of a word: the nearest of a list, or all of them.
-pub fn serving(alloc: Global, word: &str, known: &[&str]) -> Result<String, AllocError> {
-    match nearest(alloc, word, known)? {
+pub fn serving(alloc: Global, word: &str, known: &[&str]) -> Result<String, AllocError>
+    ensures { IfOk result (λ text. Serves known.now (string_bytes text)) }
+{
+    let found = nearest(alloc, word, known)?;
+    match found {
         Some(near) => format!(in alloc; "did you mean {near}?"),
         None => {
-            let list = listed(alloc, known)?;
+            let list = joined(alloc, known, ", ")?;
             format!(in alloc; "there are {list}")
         }
     }

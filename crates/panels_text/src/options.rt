@@ -1,5 +1,8 @@
 //! The words of the command line.
 
+ghost use Rattle.std.specs.Prelude.{◌≡◌, true, IfOk, IfSome, Some};
+ghost use Rattle.panels_text.specs.CommandLine.{command_at, command_named, is_fit};
+
 use crate::failure::{Failure, fault};
 use crate::nearest::serving;
 use crate::shards::{Shard, shard_named};
@@ -69,7 +72,9 @@ const FLAGS: [&str; 6] = [
 
 const FORMATS: [&str; 4] = ["text", "tap", "junit", "json"];
 
-fn command_of(word: &str) -> Option<Command> {
+fn command_of(word: &str) -> Option<Command>
+    ensures { result ≡ command_named word.now }
+{
     match word {
         "check" => Some(Command::Check),
         "run" => Some(Command::Run),
@@ -115,7 +120,9 @@ fn unknown(alloc: Global, what: &str, word: &str, known: &[&str]) -> Result<Fail
 }
 
 /// Takes the value of a flag.
-fn take_value(alloc: Global, options: &mut Options, flag: Flag, word: &str) -> Result<(), Failure> {
+fn take_value(alloc: Global, options: &mut Options, flag: Flag, word: &str) -> Result<(), Failure>
+    ensures { options.new.command ≡ options.old.command }
+{
     match flag {
         Flag::Format => match format_of(word) {
             Some(format) => options.format = format,
@@ -142,7 +149,9 @@ fn take_value(alloc: Global, options: &mut Options, flag: Flag, word: &str) -> R
 }
 
 /// Takes a word of the command line, and answers the flag whose value comes next.
-fn take(alloc: Global, options: &mut Options, word: &str) -> Result<Option<Flag>, Failure> {
+fn take(alloc: Global, options: &mut Options, word: &str) -> Result<Option<Flag>, Failure>
+    ensures { options.new.command ≡ options.old.command }
+{
     if !word.starts_with("--") {
         options.files.push(String::from_str(alloc, word)?)?;
         return Ok(None);
@@ -162,9 +171,12 @@ fn take(alloc: Global, options: &mut Options, word: &str) -> Result<Option<Flag>
 }
 
 /// Whether a command has as many files as it wants, and no flag that isn't its own.
-fn is_fit(options: &Options) -> bool {
+fn is_fit(options: &Options) -> bool
+    ensures { result ≡ is_fit options.now }
+{
     let count = options.files.len();
-    let checks = options.format != Format::Text || options.shard.is_some() || options.isolates;
+    let is_told_otherwise = !matches!(options.format, Format::Text);
+    let checks = is_told_otherwise || options.shard.is_some() || options.isolates;
     let (draws, writes) = (options.at.is_some(), options.to.is_some());
     let is_plain = !checks && !options.traces;
     match options.command {
@@ -181,11 +193,10 @@ fn is_fit(options: &Options) -> bool {
 }
 
 /// Takes the words behind the command; nothing where they are none that can be followed.
-fn taken(
-    alloc: Global,
-    mut options: Options,
-    words: &[String],
-) -> Result<Option<Options>, Failure> {
+fn taken(alloc: Global, mut options: Options, words: &[String]) -> Result<Option<Options>, Failure>
+    ensures command { IfOk result (λ found. IfSome found (λ taken. taken.command ≡ options.command)) }
+    ensures fit { IfOk result (λ found. IfSome found (λ taken. is_fit taken ≡ true)) }
+{
     let mut waiting = None;
     for word in words {
         waiting = match waiting {
@@ -204,7 +215,10 @@ fn taken(
 }
 
 /// What the words of the command line ask for, the program's name the first of them; nothing where they are none that can be followed.
-pub fn options_of(alloc: Global, words: &[String]) -> Result<Option<Options>, Failure> {
+pub fn options_of(alloc: Global, words: &[String]) -> Result<Option<Options>, Failure>
+    ensures command { IfOk result (λ found. IfSome found (λ options. command_at words.now ≡ Some options.command)) }
+    ensures fit { IfOk result (λ found. IfSome found (λ options. is_fit options ≡ true)) }
+{
     let [_, first, rest @ ..] = words else {
         return Ok(None);
     };

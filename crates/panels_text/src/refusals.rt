@@ -1,6 +1,7 @@
 //! What an answer says of the words of a question.
 
-ghost use Rattle.std.specs.Prelude.{◌≤◌, ◌<◌, length, IfSome};
+ghost use Rattle.std.specs.Prelude.{◌≡◌, ◌≤◌, ◌<◌, length, IfSome};
+ghost use Rattle.panels_text.specs.Refusals.{index_of, is_count, refuses_count};
 
 use crate::questions::{ANY, Question};
 
@@ -50,7 +51,10 @@ fn index_of(question: &Question, first: usize, wanted: &str) -> Option<usize>
 }
 
 /// What an answer says that a question has wrong; nothing where it says nothing of its words.
-pub fn refusal_in<'a>(question: &Question, answer: &'a str) -> Option<Refusal<'a>> {
+pub fn refusal_in<'a>(question: &Question, answer: &'a str) -> Option<Refusal<'a>>
+    ensures count { is_count result ≡ refuses_count question.now answer.now }
+    ensures within { IfSome (index_of result) (λ index. index < length question.now.words.items) }
+{
     if answer.starts_with("wrong # args: ") {
         return if question.is_whole {
             Some(Refusal::Count)
@@ -58,7 +62,9 @@ pub fn refusal_in<'a>(question: &Question, answer: &'a str) -> Option<Refusal<'a
             None
         };
     }
-    let word = quoted(answer)?;
+    let Some(word) = quoted(answer) else {
+        return None;
+    };
     if word.is_empty() || word.contains(ANY) {
         return None;
     }

@@ -1,6 +1,6 @@
 //! Shares of the benches of a check, for runs side by side.
 
-ghost use Rattle.std.specs.Prelude.{◌<◌, IfSome};
+ghost use Rattle.std.specs.Prelude.{◌≡◌, ◌<◌, IfNone, IfOk, IfSome, Ok};
 
 use crate::failure::{Failure, fault};
 use crate::files::write;
@@ -17,7 +17,8 @@ pub struct Shard {
 }
 
 impl Shard {
-    ghost use Rattle.std.specs.Prelude.{◌≡◌, ◌<◌, ◌≤◌, IfNone, IfSome};
+    ghost use Rattle.std.specs.Prelude.{◌≡◌, ℕ, ◌<◌, ◌≤◌, true, IfNone, IfSome, IsTrue};
+    ghost use Rattle.panels_text.specs.declared.shards.Shard.{Shard};
     ghost use Rattle.panels_text.specs.Verdicts.{is_in_share};
 
     /// All benches.
@@ -37,7 +38,11 @@ impl Shard {
 
     /// Whether the bench of this number, from 0 on, is in the share.
     pub fn has(self, number: usize) -> bool
-        ensures { result ≡ is_in_share self number }
+        ensures share { result ≡ is_in_share self number }
+
+        // Of as many shares each bench is in one, and in no other.
+        ensures once { (other : Shard) → 0 < self.count → other.count ≡ self.count → IsTrue result → is_in_share other number ≡ true → other.index ≡ self.index }
+        ensures somewhere { 0 < self.count → (index : ℕ) × (index < self.count) × (is_in_share (record { index = index; count = self.count }) number ≡ true) }
     {
         self.count == 0 || number % self.count == self.index
     }
@@ -62,7 +67,9 @@ fn variable<R: Env + AllocGlobal>(rt: &R, name: &str) -> Result<Option<String>, 
 }
 
 /// The share that Bazel's environment names: `TEST_TOTAL_SHARDS` says how many there are, and `TEST_SHARD_INDEX` which one this is, from 0 on.
-fn shard_in_environment<R: Env + AllocGlobal>(rt: &R) -> Result<Option<Shard>, Failure> {
+fn shard_in_environment<R: Env + AllocGlobal>(rt: &R) -> Result<Option<Shard>, Failure>
+    ensures { IfOk result (λ found. IfSome found (λ shard. shard.index < shard.count)) }
+{
     let alloc = rt.alloc();
     let Some(total) = variable(rt, "TEST_TOTAL_SHARDS")? else {
         return Ok(None);
@@ -93,10 +100,10 @@ fn touch_status_file<R: Env + Files + AllocGlobal>(rt: &R) -> Result<(), Failure
 }
 
 /// The share that is played: the one of the command line, or else of the environment, or else all.
-pub fn shard_of<R: Env + Files + AllocGlobal>(
-    rt: &R,
-    said: Option<Shard>,
-) -> Result<Shard, Failure> {
+pub fn shard_of<R: Env + Files + AllocGlobal>(rt: &R, said: Option<Shard>) -> Result<Shard, Failure>
+    ensures said { IfSome said (λ shard. result ≡ Ok shard) }
+    ensures number { IfNone said (IfOk result (λ shard. shard.index < shard.count)) }
+{
     if let Some(shard) = said {
         return Ok(shard);
     }

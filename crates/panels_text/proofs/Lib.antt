@@ -1,0 +1,5 @@
+pub mod DifferenceLemmas
+pub mod PlaceLemmas
+pub mod RowLemmas
+pub mod TableLemmas
+pub mod Turns

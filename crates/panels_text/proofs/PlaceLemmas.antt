@@ -1,0 +1,43 @@
+-- Lemmas on the lines of a bench.
+use Rattle.std.proofs.Common.{◌≡◌, ℕ, zero, suc, ◌+◌, ◌-◌, ◌<◌, ◌≤◌, Bool, true, false, cond, eqb, List, [], ◌∷◌, length, drop, Option, Some, None, refl, sym, ap, ◌∙◌, arith}
+use Rattle.std.specs.List.{onto_first}
+use Rattle.std.specs.Prelude.{slice_get}
+use Rattle.panels_text.specs.Places.{begins_table, has_key, heads_from, is_head, key_line}
+use Rattle.panels_text.specs.Texts.{lines_of}
+
+length-onto : {A : Type 0} (x : A) (parts : List (List A)) → length (onto_first x parts) ≤ length parts + 1
+length-onto x [] = omega arith
+length-onto x (part ∷ parts) = omega arith
+
+lines_by_test : (byte : ℕ) (text : List ℕ) (t : Bool) → eqb byte 10 ≡ t → length (lines_of text) ≤ length text + 1 → length (lines_of (byte ∷ text)) ≤ length text + 2
+lines_by_test byte text true is few = rw is (omega arith)
+lines_by_test byte text false is few = rw is (omega (arith, length-onto byte (lines_of text)))
+
+-- a text has a line more than bytes at most
+pub length-lines_of : (text : List ℕ) → length (lines_of text) ≤ length text + 1
+length-lines_of [] = omega arith
+length-lines_of (byte ∷ text) = omega (arith, lines_by_test byte text (eqb byte 10) refl (length-lines_of text))
+
+-- the first head of what is left, and those behind it
+pub heads-hit : (number : ℕ) (array line : List ℕ) (left lines : List (List ℕ)) → left ≡ line ∷ lines → is_head array line ≡ true → heads_from number array left ≡ number ∷ heads_from (number + 1) array lines
+heads-hit number array line left lines here is = rw (here, is) refl
+
+pub heads-miss : (number : ℕ) (array line : List ℕ) (left lines : List (List ℕ)) → left ≡ line ∷ lines → is_head array line ≡ false → heads_from number array left ≡ heads_from (number + 1) array lines
+heads-miss number array line left lines here is = rw (here, is) refl
+
+pub get-later : (number index : ℕ) (others : List ℕ) → 0 < index → slice_get (number ∷ others) index ≡ slice_get others (index - 1)
+get-later number zero others some = absurd (omega arith)
+get-later number (suc index) others some = let e : suc index - 1 ≡ index = omega arith in rw e refl
+
+-- the line of a key in what is left of a table
+pub key-end : (head number : ℕ) (key line : List ℕ) (left lines : List (List ℕ)) → left ≡ line ∷ lines → begins_table line ≡ true → key_line head number key left ≡ head
+key-end head number key line left lines here is = rw (here, is) refl
+
+pub key-hit : (head number : ℕ) (key line : List ℕ) (left lines : List (List ℕ)) → left ≡ line ∷ lines → begins_table line ≡ false → has_key key line ≡ true → key_line head number key left ≡ number
+key-hit head number key line left lines here is has = rw (here, is, has) refl
+
+pub key-miss : (head number : ℕ) (key line : List ℕ) (left lines : List (List ℕ)) → left ≡ line ∷ lines → begins_table line ≡ false → has_key key line ≡ false → key_line head number key left ≡ key_line head (number + 1) key lines
+key-miss head number key line left lines here is has = rw (here, is, has) refl
+
+pub key-none : (head number : ℕ) (key : List ℕ) (left : List (List ℕ)) → left ≡ [] → key_line head number key left ≡ head
+key-none head number key left none = rw none refl

@@ -1,0 +1,8 @@
+use Rattle.std.proofs.Common.{◌≡◌, ◌++◌, ◌+◌, drop, length, map, string_bytes}
+use Rattle.std.specs.Prelude.{encode_utf8_all, flat_map}
+use Rattle.panels_text.specs.Reports.{problem_line}
+use Rattle.panels_text.proofs.cases.push_problems.Given as goal
+
+-- what was added, and what is left, is all
+abbrev pub invariant-loop-problem : goal.invariant-loop-problem
+invariant-loop-problem l = string_bytes l.text ++ flat_map problem_line (map string_bytes (drop l.problem-index l.problems)) ≡ string_bytes l.initial.text ++ flat_map problem_line (map string_bytes l.problems)

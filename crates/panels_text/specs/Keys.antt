@@ -1,0 +1,22 @@
+-- Meaning. Keys by their names, and by those that other systems give them.
+use Rattle.std.specs.Prelude.{◌≡◌, ℕ, ◌||◌, if◌then◌else◌, List, ◌++◌, codes, Option, Some, None}
+use Rattle.std.specs.Str.{bytes_eq}
+use Rattle.tk_base.specs.Names.{name_of}
+
+-- the name that a key has here, by one that another system gives it
+abbrev pub here_for : List ℕ → Option (List ℕ)
+here_for name =
+    if bytes_eq name (codes "Enter") || bytes_eq name (codes "KP_Enter") then Some (codes "Return")
+    else if bytes_eq name (codes "Esc") then Some (codes "Escape")
+    else if bytes_eq name (codes "Del") then Some (codes "Delete")
+    else if bytes_eq name (codes "PageUp") || bytes_eq name (codes "Page_Up") then Some (codes "Prior")
+    else if bytes_eq name (codes "PageDown") || bytes_eq name (codes "Page_Down") then Some (codes "Next")
+    else None
+
+abbrev pub key_words : Option ℕ → List ℕ
+key_words (Some key) = codes "the name of this key is " ++ name_of key
+key_words None = codes "keys type printing ASCII characters alone, and some have names, as Return and space"
+
+abbrev pub OtherwiseTold : Option (List ℕ) → List ℕ → Type 0
+OtherwiseTold (Some here) text = text ≡ codes "did you mean " ++ (here ++ codes "?")
+OtherwiseTold None text = Unit {0}

@@ -8,7 +8,7 @@ use Rattle.tk_route.specs.declared.fault.HostFault.TheVariants as hosts
 use Rattle.tk_route.specs.declared.fault.LineFault.{LineFault}
 use Rattle.tk_route.specs.declared.line.HostLine.{HostLine}
 use Rattle.tk_app.specs.Seen.{Meaning}
-use Rattle.tk_host.specs.Held.{Held, held_after}
+use Rattle.tk_host.specs.Held.{HostState, held_after}
 use Rattle.tk_host.specs.Refusals.{IsRefusal, RefusesLine, RefusesMoment, line_faults, moment_faults}
 use Rattle.panels.specs.declared.bench.Entry.{Entry}
 use Rattle.panels.specs.declared.playing.BenchFault.{BenchFault}
@@ -54,33 +54,33 @@ module _ {M : Type 0} (answer : M → Meaning) where
       inr (front.0, refuses_lines-append moment lines more (handed (record { moment = moment; line = line }) way) fault front.1 rest)
 
   -- one line more is taken
-  pub takes_lines-more : (moment : ℕ) (lines : List HostLine) (i : ℕ) (line : HostLine) (way : Way M) (held : Held M) → i < length lines → line ≡ get_or lines i line
+  pub takes_lines-more : (moment : ℕ) (lines : List HostLine) (i : ℕ) (line : HostLine) (way : Way M) (held : HostState M) → i < length lines → line ≡ get_or lines i line
       → held ≡ held_after answer (handed_all moment (take i lines) way).calls → TakesLines answer moment (take i lines) way → NoneApplies (RefusesLine held moment line) line_faults
       → TakesLines answer moment (take (i + 1) lines) way
   takes_lines-more moment lines i line way held h is now front none =
       subst (λ (all : List HostLine). TakesLines answer moment all way) (sym (front_at lines i line h is))
-      (takes_lines-append moment (take i lines) (line ∷ []) way front (subst (λ (other : Held M). NoneApplies (RefusesLine other moment line) line_faults) now none, tt))
+      (takes_lines-append moment (take i lines) (line ∷ []) way front (subst (λ (other : HostState M). NoneApplies (RefusesLine other moment line) line_faults) now none, tt))
 
   -- the line behind those that were taken is refused
-  pub refuses_lines-at : (moment : ℕ) (lines : List HostLine) (i : ℕ) (line : HostLine) (way : Way M) (held : Held M) → i < length lines → line ≡ get_or lines i line
+  pub refuses_lines-at : (moment : ℕ) (lines : List HostLine) (i : ℕ) (line : HostLine) (way : Way M) (held : HostState M) → i < length lines → line ≡ get_or lines i line
       → held ≡ held_after answer (handed_all moment (take i lines) way).calls → TakesLines answer moment (take i lines) way
       → (fault : LineFault) → IsFirst (RefusesLine held moment line) line_faults fault → RefusesLines answer moment lines way fault
   refuses_lines-at moment lines i line way held h is now front fault first =
       subst (λ (all : List HostLine). RefusesLines answer moment all way fault) (sym (whole_at lines i line h is))
       (refuses_lines-append moment (take i lines) (line ∷ drop (i + 1) lines) way fault front
-      (inl (subst (λ (other : Held M). IsFirst (RefusesLine other moment line) line_faults fault) now first)))
+      (inl (subst (λ (other : HostState M). IsFirst (RefusesLine other moment line) line_faults fault) now first)))
 
   -- ── entries ──
 
   -- the moment of an entry is refused
-  pub refuses_moment : (entry : Entry) (way : Way M) (held : Held M) → held ≡ held_after answer way.calls
+  pub refuses_moment : (entry : Entry) (way : Way M) (held : HostState M) → held ≡ held_after answer way.calls
       → (fault : LineFault) → IsFirst (RefusesMoment held entry.moment) moment_faults fault → RefusesEntry answer entry way fault
-  refuses_moment entry way held now fault first = inl (subst (λ (other : Held M). IsFirst (RefusesMoment other entry.moment) moment_faults fault) now first)
+  refuses_moment entry way held now fault first = inl (subst (λ (other : HostState M). IsFirst (RefusesMoment other entry.moment) moment_faults fault) now first)
 
   -- the moment is taken
-  pub takes_moment : (entry : Entry) (way : Way M) (held : Held M) → held ≡ held_after answer way.calls → NoneApplies (RefusesMoment held entry.moment) moment_faults
+  pub takes_moment : (entry : Entry) (way : Way M) (held : HostState M) → held ≡ held_after answer way.calls → NoneApplies (RefusesMoment held entry.moment) moment_faults
       → NoneApplies (RefusesMoment (held_after answer way.calls) entry.moment) moment_faults
-  takes_moment entry way held now none = subst (λ (other : Held M). NoneApplies (RefusesMoment other entry.moment) moment_faults) now none
+  takes_moment entry way held now none = subst (λ (other : HostState M). NoneApplies (RefusesMoment other entry.moment) moment_faults) now none
 
   takes_all-append : (number : ℕ) (entries more : List Entry) (way : Way M) → TakesAll answer number entries way
       → TakesAll answer (number + length entries) more (went answer number entries way) → TakesAll answer number (entries ++ more) way

@@ -5,7 +5,7 @@ use Rattle.std.proofs.lemmas.List.{length-take-le}
 use Rattle.tk_route.specs.Lines.{focus_by, rects_by}
 use Rattle.tk_route.specs.declared.line.HostLine.{HostLine}
 use Rattle.tk_app.specs.Seen.{Meaning}
-use Rattle.tk_host.specs.Held.{AdvanceTo, Call, Held, LineAt, held_after}
+use Rattle.tk_host.specs.Held.{AdvanceTo, Call, HostState, LineAt, held_after}
 use Rattle.tk_session.specs.declared.session.EventLine.{EventLine}
 use Rattle.panels.specs.declared.bench.Entry.{Entry}
 use Rattle.panels.specs.declared.course.Course.{Course}
@@ -43,7 +43,7 @@ module _ {M : Type 0} (answer : M → Meaning) where
       ∙ ap (λ n. entered answer n entry (went answer 0 (take i entries) way)) count
 
   -- a line that was handed
-  pub at_handed : (way : Way M) (event : EventLine) (held after : Held M) (course later : Course) → IsAt answer way held course
+  pub at_handed : (way : Way M) (event : EventLine) (held after : HostState M) (course later : Course) → IsAt answer way held course
       → ((calls : List (Call M)) → held ≡ held_after answer calls → after ≡ held_after answer (calls ++ LineAt event.moment event.line ∷ []))
       → later.screen.rects.items ≡ rects_by event.line course.screen.rects.items → later.screen.keys ≡ focus_by event.line course.screen.keys
       → later.screen.pointer ≡ came event.line course.screen.pointer
@@ -59,7 +59,7 @@ module _ {M : Type 0} (answer : M → Meaning) where
   }
 
   -- a moment that was reached
-  pub at_advanced : (way : Way M) (moment : ℕ) (held after : Held M) (course : Course) → IsAt answer way held course
+  pub at_advanced : (way : Way M) (moment : ℕ) (held after : HostState M) (course : Course) → IsAt answer way held course
       → ((calls : List (Call M)) → held ≡ held_after answer calls → after ≡ held_after answer (calls ++ AdvanceTo moment ∷ []))
       → IsAt answer (advanced moment way) after course
   at_advanced way moment held after course is history = record {
@@ -72,7 +72,7 @@ module _ {M : Type 0} (answer : M → Meaning) where
   }
 
   -- what was found
-  pub at_found : (way : Way M) (held : Held M) (course later : Course) (found : List ToldFinding) → IsAt answer way held course
+  pub at_found : (way : Way M) (held : HostState M) (course later : Course) (found : List ToldFinding) → IsAt answer way held course
       → later.screen.rects.items ≡ course.screen.rects.items → later.screen.keys ≡ course.screen.keys → later.screen.pointer ≡ course.screen.pointer
       → later.events.items ≡ course.events.items
       → map told later.findings.items ≡ map told course.findings.items ++ found

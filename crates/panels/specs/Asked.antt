@@ -2,8 +2,8 @@
 use Rattle.std.specs.Prelude.{ℕ, ◌==◌, Bool, true, false, List, Option, Some, None, option_and_then, Result, Ok, Err}
 use Rattle.std.specs.Str.{bytes_eq}
 use Rattle.std.specs.String.{string_bytes}
-use Rattle.tk_entry.specs.Entries.{cursor_in, shown}
-use Rattle.tk_listbox.specs.Items.{chosen_from}
+use Rattle.tk_widgets.specs.Entries.{cursor_in, shown}
+use Rattle.tk_widgets.specs.Items.{selected_from}
 use Rattle.tk_options.specs.declared.fault.OptionFault.{OptionFault}
 use Rattle.tk_options.specs.Options.{value_meant}
 use Rattle.tk_widgets.specs.Classes.{value_told as value_of_widget}
@@ -12,7 +12,7 @@ use Rattle.tk_widgets.specs.declared.widget.Parts.{Parts}
 use Rattle.tk_widgets.specs.declared.widget.Parts.TheVariants as parts
 use Rattle.tk_widgets.specs.declared.widget.Widget.{Widget}
 use Rattle.tk_app.specs.Inspection.{focus_of, title_of, variable_of, widget_of}
-use Rattle.tk_host.specs.Held.{Held}
+use Rattle.tk_host.specs.Held.{HostState}
 use Rattle.tk_host.specs.Inspection.{seen}
 use Rattle.panels.specs.declared.bench.Answer.{Answer}
 use Rattle.panels.specs.declared.bench.Answer.TheVariants as answers
@@ -92,7 +92,7 @@ rows_of parts.Frame = NothingTold
 rows_of parts.Label = NothingTold
 rows_of parts.Button = NothingTold
 rows_of (parts.Entry entry) = NothingTold
-rows_of (parts.Listbox listbox) = RowsTold (chosen_from 0 listbox.items)
+rows_of (parts.Listbox listbox) = RowsTold (selected_from 0 listbox.items)
 
 abbrev pub rows_told : Option Widget → Told
 rows_told None = NothingTold
@@ -123,7 +123,7 @@ cursor_told variable (Some widget) = cursor_of variable widget.parts
 
 -- ---- panels
 
-module _ {M : Type 0} (slot : ℕ) (held : Held M) where
+module _ {M : Type 0} (slot : ℕ) (held : HostState M) where
   -- the widget of a window, and the text of the variable that it shows
   abbrev pub widget_at : List ℕ → Option Widget
   widget_at path = seen (widget_of path) slot held

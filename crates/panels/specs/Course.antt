@@ -5,7 +5,7 @@ use Rattle.tk_base.specs.declared.rect.Rect.{Rect}
 use Rattle.tk_route.specs.Lines.{focus_by, rects_by}
 use Rattle.tk_route.specs.declared.line.HostLine.{HostLine}
 use Rattle.tk_app.specs.Seen.{Meaning}
-use Rattle.tk_host.specs.Held.{AdvanceTo, Call, Held, LineAt, Start, held_after}
+use Rattle.tk_host.specs.Held.{AdvanceTo, Call, HostState, LineAt, Start, held_after}
 use Rattle.tk_host.specs.Sections.{sections_after}
 use Rattle.tk_session.specs.Session.{rects_of}
 use Rattle.tk_session.specs.declared.session.AppBlock.{AppBlock}
@@ -98,7 +98,7 @@ module _ {M : Type 0} (answer : M → Meaning) where
   course_of bench lists = went 0 bench.entries.items (begun bench.panels.items lists)
 
   -- a host and what is kept beside it have come so far
-  pub record IsAt (way : Way M) (held : Held M) (course : Course) : Type 0 where
+  pub record IsAt (way : Way M) (held : HostState M) (course : Course) : Type 0 where
     pub held_is : held ≡ held_after answer way.calls
     pub rects_are : course.screen.rects.items ≡ way.rects
     pub keys_are : course.screen.keys ≡ way.keys

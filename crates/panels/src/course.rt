@@ -1,5 +1,6 @@
 //! What happens on a bench.
 
+use crate::ending::Ending;
 use crate::finding::Finding;
 use crate::gesture::Screen;
 use tk_session::EventLine;
@@ -11,4 +12,6 @@ pub(crate) struct Course {
     /// The lines that gestures became.
     pub events: Vec<EventLine>,
     pub findings: Vec<Finding>,
+    /// How each panel ended, by its slot; none before the end.
+    pub endings: Vec<Ending>,
 }

@@ -21,6 +21,7 @@ ghost use Rattle.panels.specs.Verdict.{sections_in};
 
 use crate::bench::{Act, Answer, Bench, Entry, Gesture};
 use crate::course::Course;
+use crate::ending::{Ending, endings_of};
 use crate::finding::{Finding, Found};
 use crate::gesture::{Outcome, Screen, outcome_of};
 use crate::look::push_unseen;
@@ -92,6 +93,8 @@ pub struct Played {
     pub output: Vec<u8>,
     /// The section of each panel at the end, cut out of that.
     pub sections: Vec<Vec<u8>>,
+    /// How each panel ended, by its slot.
+    pub endings: Vec<Ending>,
 }
 
 /// What the host refuses in an entry.
@@ -289,6 +292,17 @@ fn rects_of(alloc: Global, panels: &[AppBlock]) -> Result<Vec<Rect>, AllocError>
     Ok(rects)
 }
 
+/// Comes to the end of a bench. An end before the last line is refused where the session is written.
+fn come_to_end<M: AliasService>(host: &mut Host<M>, end: u64) -> Result<(), BenchFault>
+    requires begun { host.old.held.phase ≢ Phase.Adding }
+    ensures memory { IfErr result (λ fault. fault ≡ BenchFault.NoMemory) }
+{
+    match host.advance_to(end) {
+        Ok(()) | Err(HostFault::Refused(_)) => Ok(()),
+        Err(HostFault::NoMemory) => Err(BenchFault::NoMemory),
+    }
+}
+
 /// What happens on a bench, whose panels are those of a session.
 fn course_of<M: AliasService>(
     alloc: Global,
@@ -311,9 +325,12 @@ fn course_of<M: AliasService>(
         },
         events: Vec::new(alloc),
         findings: Vec::new(alloc),
+        endings: Vec::new(alloc),
     };
     let mut host = started(alloc, session, aliases, slice)?;
     go_through(alloc, &mut host, &mut course, bench.entries.as_slice())?;
+    come_to_end(&mut host, bench.end)?;
+    course.endings = endings_of(alloc, &host, session.apps().len())?;
     Ok(course)
 }
 
@@ -377,6 +394,8 @@ pub fn sections_with<F: AliasCode, K: Fn(ServiceKind, Text) -> F>(
 /// Plays a bench, each panel at most `slice` steps at a time, with the closures that are made for its aliases: entry by entry, where a gesture becomes the
 /// lines of a session that lead to where its window lies at that moment. These lines and the panels are a session, which is written, read again and played.
 ///
+/// How its panels ended is noted by the host that took these entries, once it has come to the end.
+///
 /// Refused are, in this order: panels that can't stand side by side in a session, the first entry that the host refuses, and an end before the last of them.
 #[tactic(auto, using(crate::proofs::Refused::refused_first, crate::proofs::Refused::refused_among, crate::proofs::Refused::refused_last))]
 pub fn play<F: AliasCode, K: Fn(ServiceKind, Text) -> F>(
@@ -407,5 +426,6 @@ pub fn play<F: AliasCode, K: Fn(ServiceKind, Text) -> F>(
         session: text,
         output,
         sections,
+        endings: course.endings,
     })
 }

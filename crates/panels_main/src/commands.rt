@@ -1,151 +1,19 @@
 //! What the program does.
 
-use crate::idle::push_idle;
-use crate::isolating::push_disturbed;
+use crate::checking::check;
+use crate::lines::live;
 use crate::linting::lint;
-use crate::live::live;
-use crate::report::push_cases;
+use crate::playing::played;
 use crate::showing::{draw, show as show_page, tell};
-use panels::{BenchFault, Played, compared, is_same, play};
-use panels_bench::{Read, Side, load, slot_at};
+use panels::{compared, is_same};
+use panels_bench::{Side, load};
 use panels_text::{
-    Case, Command, Failure, Format, Options, as_text, count_failed, differences, expected,
-    explained, fault, file_beside, json, junit, report, shard_of, tap, write,
+    Command, Failure, Options, as_text, differences, expected, explained, fault, file_beside, write,
 };
-use std::alloc::Global;
 use std::env::Env;
 use std::fs;
 use std::io::{Eprint, Input};
 use std::rt::Files;
-use tcl_text::Text;
-use tk_session::{LineFault, ServiceKind, WritingFault};
-
-/// Why panels are no session, in words.
-fn words_of(fault: LineFault) -> &'static str {
-    match fault {
-        LineFault::Overlap => "its rectangle shares a pixel with that of a panel above",
-        LineFault::NameTaken => "its name, or that of one of its aliases, is taken",
-        LineFault::TooManyApps => "it is the seventeenth panel: a bench has sixteen at most",
-        LineFault::TimeBack => "its moment is before that of a line above",
-        LineFault::NoApp => "no panel has this name",
-        LineFault::RectOverlap => "the new rectangle shares a pixel with another panel",
-        LineFault::BadLine => {
-            "a value is none that a session has: a name is a letter and then letters, digits and _, 32 at most; an alias's name is 1 to 64 \
-             printing characters and begins neither with . nor with ::; there are 64 aliases at most; a size is 1 or more"
-        }
-        LineFault::Started | LineFault::Ended | LineFault::Broken => "the host refuses it",
-    }
-}
-
-/// What is wrong with a bench that isn't played.
-pub(crate) fn not_played(alloc: Global, file: &str, read: &Read, why: BenchFault) -> Failure {
-    match why {
-        BenchFault::NoMemory | BenchFault::NoSession(WritingFault::NoMemory) => Failure::NoMemory,
-        BenchFault::NoSession(WritingFault::Unlike) => {
-            fault(
-                alloc,
-                file,
-                0,
-                "the configuration of an alias has a line feed, which a session hasn't",
-            )
-        }
-        BenchFault::NoSession(WritingFault::Refused { fault: why, line }) => {
-            let slot = slot_at(read.bench.panels.as_slice(), line);
-            let line = match read.sides.as_slice().get(slot) {
-                Some(side) => side.line,
-                None => 0,
-            };
-            fault(alloc, file, line, words_of(why))
-        }
-        BenchFault::Refused { entry, fault: why } => {
-            let line = read.lines.as_slice().get(entry).copied().unwrap_or(0);
-            fault(alloc, file, line, words_of(why))
-        }
-    }
-}
-
-/// Plays a bench with the program's own services.
-pub(crate) fn played(alloc: Global, file: &str, read: &Read) -> Result<Played, Failure> {
-    let answer = play(
-        alloc,
-        &read.bench,
-        read.slice.max(1),
-        &|kind: ServiceKind, config: Text| move |args: &[Text]| kind.reply(alloc, &config, args),
-    );
-    match answer {
-        Ok(played) => Ok(played),
-        Err(why) => Err(not_played(alloc, file, read, why)),
-    }
-}
-
-/// Plays a bench and adds its cases.
-fn push_played<R: Files + AllocGlobal>(
-    rt: &R,
-    cases: &mut Vec<Case>,
-    file: &str,
-    isolates: bool,
-) -> Result<(), Failure> {
-    let read = load(rt, file)?;
-    let played = played(rt.alloc(), file, &read)?;
-    let first = cases.len();
-    push_cases(rt, cases, file, &read, &played)?;
-    push_idle(rt.alloc(), cases.as_mut_slice(), first, &read, &played)?;
-    if isolates {
-        push_disturbed(rt, cases, first, file, &played)?;
-    }
-    Ok(())
-}
-
-/// The verdicts in a format.
-fn formatted(alloc: Global, format: Format, cases: &[Case]) -> Result<String, Failure> {
-    match format {
-        Format::Text => Ok(report(alloc, cases)?),
-        Format::Tap => Ok(tap(alloc, cases)?),
-        Format::Junit => Ok(junit(alloc, cases)?),
-        Format::Json => json(alloc, cases),
-    }
-}
-
-/// Begins the line of a terminal again.
-const LINE_AGAIN: &str = "\r\u{1b}[K";
-
-/// Says on a terminal which bench is played.
-fn show_progress<R: AllocGlobal + Eprint>(
-    rt: &R,
-    files: &[String],
-    number: usize,
-    file: &str,
-) -> Result<(), Failure> {
-    let number = number.saturating_add(1);
-    let text = format!(in rt.alloc(); "{LINE_AGAIN}{number} of {}: {file}", files.len())?;
-    Ok(rt.eprint(text.as_str())?)
-}
-
-/// Checks the benches of a share. `on_terminal` says that standard error is a terminal, which shows how far the run is.
-fn check<R: Env + Files + AllocGlobal + Print + Eprint>(
-    rt: &R,
-    options: &Options,
-    on_terminal: bool,
-) -> Result<u8, Failure> {
-    let files = options.files.as_slice();
-    let shard = shard_of(rt, options.shard)?;
-    let mut cases: Vec<Case> = Vec::new(rt.alloc());
-    for (number, file) in files.iter().enumerate() {
-        if shard.has(number) {
-            if on_terminal {
-                show_progress(rt, files, number, file.as_str())?;
-            }
-            let played = push_played(rt, &mut cases, file.as_str(), options.isolates);
-            if on_terminal {
-                rt.eprint(LINE_AGAIN)?;
-            }
-            played?;
-        }
-    }
-    let text = formatted(rt.alloc(), options.format, cases.as_slice())?;
-    rt.print(text.as_str())?;
-    Ok(u8::from(count_failed(cases.as_slice()) > 0))
-}
 
 fn print<R: Print>(rt: &R, bytes: &[u8]) -> Result<(), Failure> {
     Ok(rt.print(as_text(bytes))?)

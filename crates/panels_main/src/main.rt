@@ -1,24 +1,12 @@
 //! The command `panels`: benches are checked, run and accepted, and sessions explained.
 #![tactic(auto)]
 
-mod asking;
-mod bindings;
-mod blocks;
+mod checking;
 mod commands;
-mod failing;
-mod film;
-mod idle;
-mod isolating;
+mod lines;
 mod linting;
-mod live;
-mod looks;
-mod notes;
-mod page;
-mod report;
-mod scenes;
-mod screens;
+mod playing;
 mod showing;
-mod trace;
 
 use commands::obeyed;
 use panels_text::{Failure, options_of};

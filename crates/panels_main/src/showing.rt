@@ -1,14 +1,9 @@
 //! Pictures and pages of benches.
 
-use crate::bindings::bindings_of;
-use crate::commands::played;
-use crate::film::{filmed, frame_at};
-use crate::notes::notes_of;
-use crate::page::page;
-use crate::scenes::{STYLE, scene};
-use crate::trace::{Story, trace};
+use crate::playing::session_played;
 use panels::picture;
 use panels_bench::load;
+use panels_film::{STYLE, Story, bindings_of, filmed, frame_at, notes_of, page, scene, trace};
 use panels_text::{Failure, fault, write};
 use std::rt::Files;
 
@@ -26,10 +21,9 @@ pub(crate) fn draw<R: Files + AllocGlobal>(
         let words = format!(in alloc; "--at {moment} is behind the end, which is {end}")?;
         return Err(fault(alloc, file, 0, words.as_str()));
     }
-    let played = played(alloc, file, &read)?;
-    let events = played.events.as_slice();
-    let frame = frame_at(alloc, played.session.as_slice(), read.slice, moment)?;
-    let scene = scene(alloc, &read.bench, events, &frame)?;
+    let session = session_played(alloc, file, &read)?;
+    let frame = frame_at(alloc, &session, read.slice, moment)?;
+    let scene = scene(alloc, session.apps(), session.events(), &frame)?;
     let picture = picture(alloc, &scene, STYLE.as_bytes())?;
     write(rt, alloc, to, picture.as_slice())?;
     Ok(0)
@@ -43,10 +37,10 @@ pub(crate) fn show<R: Files + AllocGlobal + Print>(
 ) -> Result<u8, Failure> {
     let alloc = rt.alloc();
     let read = load(rt, file)?;
-    let played = played(alloc, file, &read)?;
-    let film = filmed(alloc, played.session.as_slice(), read.slice)?;
-    let page = page(alloc, file, &read.bench, played.events.as_slice(), &film)?;
-    write(rt, alloc, to, page.as_str().as_bytes())?;
+    let session = session_played(alloc, file, &read)?;
+    let film = filmed(alloc, &session, read.slice)?;
+    let page = page(alloc, file, session.apps(), session.events(), &film)?;
+    write(rt, alloc, to, page.as_slice())?;
     let text = format!(in alloc; "{to}: {} moments", film.frames.len())?;
     rt.println(text.as_str())?;
     Ok(0)
@@ -56,15 +50,13 @@ pub(crate) fn show<R: Files + AllocGlobal + Print>(
 pub(crate) fn tell<R: Files + AllocGlobal + Print>(rt: &R, file: &str) -> Result<u8, Failure> {
     let alloc = rt.alloc();
     let read = load(rt, file)?;
-    let played = played(alloc, file, &read)?;
-    let session = played.session.as_slice();
-    let film = filmed(alloc, session, read.slice)?;
-    let events = played.events.as_slice();
-    let notes = notes_of(alloc, &read.bench, session, events)?;
-    let ran = bindings_of(alloc, load(rt, file)?, events)?;
+    let session = session_played(alloc, file, &read)?;
+    let film = filmed(alloc, &session, read.slice)?;
+    let notes = notes_of(alloc, &session)?;
+    let ran = bindings_of(alloc, &session)?;
     let story = Story {
-        panels: read.bench.panels.as_slice(),
-        events,
+        panels: session.apps(),
+        events: session.events(),
         notes: notes.as_slice(),
         ran: ran.as_slice(),
     };

@@ -1,0 +1,277 @@
+//! What a bench shows from moment to moment.
+
+ghost use Rattle.std.specs.Prelude.{◌≡◌, ◌+◌, ◌≤◌, ◌∷◌, ◌++◌, [], All, List, length, map, take, IfOk, OnOk};
+ghost use Rattle.tk_session.specs.declared.session.EventLine.{EventLine as Event};
+ghost use Rattle.tk_alias.specs.Services.{answer_of};
+ghost use Rattle.tk_alias.specs.declared.service.Service.{Service as ServiceOf};
+ghost use Rattle.tk_host.specs.Held.{AdvanceTo, Call, held_after};
+ghost use Rattle.tk_host.specs.Sections.{sections_after};
+ghost use Rattle.tkhost.specs.Calls.{lining};
+ghost use Rattle.tkhost.specs.Play.{MakesServices, services_in};
+ghost use Rattle.panels_film.specs.Films.{IsCounted, calls_until, earlier};
+ghost use Rattle.panels_film.specs.Moments.{count_until};
+
+use crate::looks::{WindowLook, looks_of};
+use crate::moments::{count_until, until};
+use crate::playing::{begun, hand, reach, sections_now};
+use panels::{Live, live_with, next_due};
+use std::alloc::{AllocError, Global};
+use tcl_text::Text;
+use tk_host::{AliasCode, AliasService};
+use tk_session::{EventLine, ServiceKind, Session};
+
+/// How many moments are looked at.
+const MOST_FRAMES: usize = 500;
+
+/// What the panels show at a moment, when all of it has happened.
+#[derive(Drop)]
+pub struct Frame {
+    /// In milliseconds.
+    pub moment: u64,
+    /// How many lines of gestures came up to it.
+    pub count: usize,
+    /// The section of each panel.
+    pub sections: Vec<Vec<u8>>,
+    /// How the windows of each look, in the order of its section.
+    pub looks: Vec<Vec<WindowLook>>,
+}
+
+/// What a bench shows from moment to moment.
+#[derive(Drop)]
+pub struct Film {
+    pub frames: Vec<Frame>,
+    /// Whether the moments up to the end are in it.
+    pub is_whole: bool,
+}
+
+/// The earlier of two moments, where they are there.
+fn earlier(one: Option<u64>, other: Option<u64>) -> Option<u64>
+    ensures { result ≡ earlier one other }
+{
+    match (one, other) {
+        (Some(one), Some(other)) => Some(one.min(other)),
+        (Some(one), None) => Some(one),
+        (None, other) => other,
+    }
+}
+
+/// The first moment after a frame at which a timer is due, up to the end.
+fn next_timer(alloc: Global, frame: &Frame, end: u64) -> Result<Option<u64>, AllocError> {
+    let mut next = None;
+    for section in &frame.sections {
+        next = earlier(next, next_due(alloc, frame.moment, section.as_slice())?);
+    }
+    Ok(next.filter(|moment| *moment <= end))
+}
+
+/// Whether two frames show the same.
+fn is_alike(one: &Frame, other: &Frame) -> bool {
+    one.sections.as_slice() == other.sections.as_slice()
+        && one.looks.as_slice() == other.looks.as_slice()
+}
+
+/// Adds a frame where it shows something else than the last one, or lines came since.
+fn push_changed(frames: &mut Vec<Frame>, frame: Frame) -> Result<(), AllocError>
+    ensures most { OnOk result (length frames.new.items ≤ length frames.old.items + 1) }
+    ensures counted { (events : List Event) → IsCounted events frame → All (IsCounted events) frames.old.items → OnOk result (All (IsCounted events) frames.new.items) }
+{
+    if let Some(last) = frames.last() {
+        if last.count == frame.count && is_alike(last, &frame) {
+            return Ok(());
+        }
+    }
+    Ok(frames.push(frame)?)
+}
+
+/// How the windows of these sections look, one for each panel.
+fn looks_now<M: AliasService>(
+    alloc: Global,
+    live: &Live<M>,
+    sections: &[Vec<u8>],
+) -> Result<Vec<Vec<WindowLook>>, AllocError> {
+    let mut looks = Vec::new(alloc);
+    for (slot, section) in sections.iter().enumerate() {
+        looks.push(looks_of(alloc, live, slot, section.as_slice())?)?;
+    }
+    Ok(looks)
+}
+
+/// What so many panels show at a moment that they have come to, after so many lines.
+fn frame_now<M: AliasService>(
+    alloc: Global,
+    live: &Live<M>,
+    panels: usize,
+    moment: u64,
+    count: usize,
+) -> Result<Frame, AllocError>
+    ensures moment { IfOk result (λ frame. frame.moment ≡ moment) }
+    ensures count { IfOk result (λ frame. frame.count ≡ count) }
+    ensures history { (calls : List (Call M)) → live.now.held ≡ held_after M.answer calls →
+        IfOk result (λ frame. map (λ section. section.items) frame.sections.items ≡ take panels (sections_after M.answer calls)) }
+{
+    let sections = sections_now(alloc, live, panels)?;
+    let looks = looks_now(alloc, live, sections.as_slice())?;
+    Ok(Frame {
+        moment,
+        count,
+        sections,
+        looks,
+    })
+}
+
+/// Hands on the lines behind so many that come up to a moment, comes to the moment, and tells what so many panels show then.
+fn frame_next<M: AliasService>(
+    alloc: Global,
+    live: &mut Live<M>,
+    panels: usize,
+    events: &[EventLine],
+    before: usize,
+    moment: u64,
+) -> Result<Frame, AllocError>
+    ensures moment { IfOk result (λ frame. frame.moment ≡ moment) }
+    ensures count { IfOk result (λ frame. frame.count ≡ count_until moment events.now) }
+{
+    let count = count_until(events, moment);
+    hand(live, events.get(before..count).unwrap_or(&[]))?;
+    reach(live, moment)?;
+    frame_now(alloc, live, panels, moment, count)
+}
+
+/// The next moment after a frame at which a line comes or a timer is due.
+fn next_moment(
+    alloc: Global,
+    frame: &Frame,
+    events: &[EventLine],
+    end: u64,
+) -> Result<Option<u64>, AllocError> {
+    let line = events.get(frame.count).map(|event| event.moment);
+    Ok(earlier(next_timer(alloc, frame, end)?, line))
+}
+
+/// What panels show from moment to moment, up to the end, while they are handed lines.
+fn film_of<M: AliasService>(
+    alloc: Global,
+    mut live: Live<M>,
+    session: &Session,
+) -> Result<Film, AllocError>
+    ensures most { IfOk result (λ film. length film.frames.items ≤ 500) }
+    ensures counted { IfOk result (λ film. All (IsCounted session.now.events) film.frames.items) }
+{
+    let mut frames: Vec<Frame> = Vec::new(alloc);
+    let events = session.events();
+    let (mut moment, mut count) = (0, 0);
+    'frames: for _number in 0..MOST_FRAMES {
+        let frame = frame_next(
+            alloc,
+            &mut live,
+            session.apps().len(),
+            events,
+            count,
+            moment,
+        )?;
+        count = frame.count;
+        let next = next_moment(alloc, &frame, events, session.end())?;
+        push_changed(&mut frames, frame)?;
+        match next {
+            Some(later) if later > moment => moment = later,
+            _ => {
+                return Ok(Film {
+                    frames,
+                    is_whole: true,
+                });
+            }
+        }
+    }
+    Ok(Film {
+        frames,
+        is_whole: false,
+    })
+}
+
+/// What panels show at a moment, while they are handed the lines up to it.
+fn frame_of<M: AliasService>(
+    alloc: Global,
+    mut live: Live<M>,
+    session: &Session,
+    moment: u64,
+) -> Result<Frame, AllocError>
+    ensures moment { IfOk result (λ frame. frame.moment ≡ moment) }
+    ensures count { IfOk result (λ frame. frame.count ≡ count_until moment session.now.events) }
+    ensures history { (calls : List (Call M)) → live.held ≡ held_after M.answer calls →
+        IfOk result (λ frame. map (λ section. section.items) frame.sections.items ≡ take (length session.now.apps) (sections_after M.answer ((calls ++ lining (take (count_until moment session.now.events) session.now.events)) ++ AdvanceTo moment ∷ []))) }
+{
+    let events = session.events();
+    hand(&mut live, until(events, moment))?;
+    reach(&mut live, moment)?;
+    let count = count_until(events, moment);
+    frame_now(alloc, &live, session.apps().len(), moment, count)
+}
+
+/// The same of the panels of a session, with the closures that are made for its aliases.
+fn frame_with<F: AliasCode, K: Fn(ServiceKind, Text) -> F>(
+    alloc: Global,
+    session: &Session,
+    slice: u64,
+    moment: u64,
+    make: &K,
+) -> Result<Frame, AllocError>
+    requires make { K.IsAlwaysCallable make.now }
+    requires services { MakesServices (K.post make.now) F.may_call F.may_reply }
+    ensures moment { IfOk result (λ frame. frame.moment ≡ moment) }
+    ensures count { IfOk result (λ frame. frame.count ≡ count_until moment session.now.events) }
+    ensures sections { IfOk result (λ frame. map (λ section. section.items) frame.sections.items ≡ take (length session.now.apps) (sections_after (λ (service : ServiceOf). answer_of service.kind service.config) (calls_until session.now moment (map services_in session.now.apps)))) }
+{
+    let live = begun(live_with(alloc, session, slice.max(1), make))?;
+    frame_of(alloc, live, session, moment)
+}
+
+/// What the panels of a session show at a moment: their scripts have run, the lines up to it were handed on, and what is due by then is done. An error where
+/// memory is refused.
+pub fn frame_at(
+    alloc: Global,
+    session: &Session,
+    slice: u64,
+    moment: u64,
+) -> Result<Frame, AllocError>
+    ensures moment { IfOk result (λ frame. frame.moment ≡ moment) }
+    ensures count { IfOk result (λ frame. frame.count ≡ count_until moment session.now.events) }
+    ensures sections { IfOk result (λ frame. map (λ section. section.items) frame.sections.items ≡ take (length session.now.apps) (sections_after (λ (service : ServiceOf). answer_of service.kind service.config) (calls_until session.now moment (map services_in session.now.apps)))) }
+{
+    frame_with(
+        alloc,
+        session,
+        slice,
+        moment,
+        &|kind: ServiceKind, config: Text| move |args: &[Text]| kind.reply(alloc, &config, args),
+    )
+}
+
+/// The film of the panels of a session, with the closures that are made for its aliases.
+fn film_with<F: AliasCode, K: Fn(ServiceKind, Text) -> F>(
+    alloc: Global,
+    session: &Session,
+    slice: u64,
+    make: &K,
+) -> Result<Film, AllocError>
+    requires make { K.IsAlwaysCallable make.now }
+    requires services { MakesServices (K.post make.now) F.may_call F.may_reply }
+    ensures most { IfOk result (λ film. length film.frames.items ≤ 500) }
+    ensures counted { IfOk result (λ film. All (IsCounted session.now.events) film.frames.items) }
+{
+    let live = begun(live_with(alloc, session, slice.max(1), make))?;
+    film_of(alloc, live, session)
+}
+
+/// The moments at which something changes on a bench that was played, of which this is the session: the first, those of the lines that its gestures became,
+/// and those at which timers are due, of the first so many of these. The panels are played once. An error where memory is refused.
+pub fn filmed(alloc: Global, session: &Session, slice: u64) -> Result<Film, AllocError>
+    ensures most { IfOk result (λ film. length film.frames.items ≤ 500) }
+    ensures counted { IfOk result (λ film. All (IsCounted session.now.events) film.frames.items) }
+{
+    film_with(
+        alloc,
+        session,
+        slice,
+        &|kind: ServiceKind, config: Text| move |args: &[Text]| kind.reply(alloc, &config, args),
+    )
+}

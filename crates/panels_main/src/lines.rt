@@ -1,0 +1,110 @@
+//! Sessions that come line by line.
+ghost use Rattle.tkhost.specs.Play.{MakesServices};
+
+use panels::{Live, live_with};
+use panels_report::{Blocks, Reply, Taken, answered};
+use panels_text::{Failure, as_text};
+use std::io::Input;
+use tcl_text::Text;
+use tk_host::{AliasCode, AliasService};
+use tk_session::{AppBlock, ServiceKind, Session};
+
+/// Prints the last line of an answer.
+fn close<R: Print + AllocGlobal>(rt: &R, words: Option<&str>) -> Result<(), Failure> {
+    match words {
+        None => Ok(rt.println("ok")?),
+        Some(words) => {
+            let mut text = String::from_str(rt.alloc(), "refused:")?;
+            for row in words.split('\n') {
+                text.push_str(" ")?;
+                text.push_str(row)?;
+            }
+            Ok(rt.println(text.as_str())?)
+        }
+    }
+}
+
+/// Prints what is told of a line, and whether the panels go on.
+fn tell<R: Print + AllocGlobal>(rt: &R, reply: &Reply) -> Result<bool, Failure> {
+    match reply {
+        Reply::Told(text) => {
+            rt.print(as_text(text.as_slice()))?;
+            close(rt, None)?;
+            Ok(true)
+        }
+        Reply::Ended(text) => {
+            rt.print(as_text(text.as_slice()))?;
+            close(rt, None)?;
+            Ok(false)
+        }
+        Reply::Refused(words) => {
+            close(rt, Some(*words))?;
+            Ok(true)
+        }
+    }
+}
+
+/// Answers the lines that come once the scripts of all panels have run.
+fn follow<R: Input + Print + AllocGlobal, M: AliasService>(
+    rt: &R,
+    mut live: Live<M>,
+    panels: &[AppBlock],
+) -> Result<(), Failure> {
+    let alloc = rt.alloc();
+    for line in rt.lines(alloc) {
+        let reply = answered(alloc, &mut live, panels, line?.as_str())?;
+        if !tell(rt, &reply)? {
+            return Ok(());
+        }
+    }
+    Ok(())
+}
+
+/// Plays panels with the closures that are made for their aliases.
+fn play_with<R: Input + Print + AllocGlobal, F: AliasCode, K: Fn(ServiceKind, Text) -> F>(
+    rt: &R,
+    session: &Session,
+    make: &K,
+) -> Result<(), Failure>
+    requires make { K.IsAlwaysCallable make.now }
+    requires services { MakesServices (K.post make.now) F.may_call F.may_reply }
+{
+    let alloc = rt.alloc();
+    match live_with(alloc, session, 64, make) {
+        Ok(live) => {
+            close(rt, None)?;
+            follow(rt, live, session.apps())
+        }
+        Err(_) => Err(Failure::NoMemory),
+    }
+}
+
+/// Plays panels with the program's own services.
+fn play<R: Input + Print + AllocGlobal>(rt: &R, session: &Session) -> Result<(), Failure> {
+    let alloc = rt.alloc();
+    play_with(
+        rt,
+        session,
+        &|kind: ServiceKind, config: Text| {
+            move |args: &[Text]| kind.reply(alloc, &config, args)
+        },
+    )
+}
+
+/// Plays a session that comes line by line on standard input, and answers each line at once.
+pub(crate) fn live<R: Input + Print + AllocGlobal>(rt: &R) -> Result<u8, Failure> {
+    let alloc = rt.alloc();
+    let mut blocks = Blocks::new(alloc);
+    for line in rt.lines(alloc) {
+        match blocks.take(alloc, line?.as_str())? {
+            Taken::Silent => {}
+            Taken::Accepted => close(rt, None)?,
+            Taken::Refused(words) => close(rt, Some(words.as_str()))?,
+            Taken::Begun(session) => {
+                play(rt, &session)?;
+                return Ok(0);
+            }
+        }
+    }
+    Ok(0)
+}

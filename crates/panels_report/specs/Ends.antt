@@ -1,0 +1,17 @@
+-- Meaning. How a panel ended: its errors, and its steps.
+use Rattle.std.specs.Prelude.{ℕ, Bool, not, ◌&&◌, ◌==◌, if◌then◌else◌, List, codes, find, nat_eq, Option, None}
+use Rattle.std.specs.List.{slice_split, starts_with}
+use Rattle.panels_bench.specs.declared.sides.Side.{Side}
+use Rattle.panels_film.specs.Heads.{is_spent}
+
+-- the first error of a transcript
+abbrev pub error_in : List ℕ → Option (List ℕ)
+error_in section = find (λ line. starts_with nat_eq line (codes "err ")) (slice_split (λ byte. byte == 10) section)
+
+-- .. where the bench doesn't say that there may be one
+abbrev pub unwanted_error : Side → List ℕ → Option (List ℕ)
+unwanted_error side section = if side.may_fail then None else error_in section
+
+-- it has spent its steps, and the bench doesn't say that it may
+abbrev pub has_run_out : Side → List ℕ → Bool
+has_run_out side section = not side.may_run_out && is_spent section

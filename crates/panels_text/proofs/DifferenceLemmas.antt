@@ -1,7 +1,7 @@
 -- Lemmas on the lines in which two sections differ.
 use Rattle.std.proofs.Common.{◌≡◌, ℕ, ◌+◌, ◌<◌, List, [], ◌∷◌, ◌++◌, length, get_or, drop, map, Bor, refl, subst, append_assoc, ◌∙◌, arith}
 use Rattle.std.proofs.lemmas.List.{drop_more}
-use Rattle.panels_text.specs.Differences.{Difference, counterpart, difference_words, or_same_lines, paired, same_lines, topic, without_counterpart}
+use Rattle.panels_text.specs.Differences.{counterpart, difference_words, or_same_lines, paired, same_lines, topic, without_counterpart}
 
 -- one turn: a line that was wanted is told beside its counterpart
 pub wanted_step : (lines : List (Bor (List ℕ))) (i : ℕ) (d : Bor (List ℕ)) (others left found told all : List (List ℕ)) (other : List ℕ) → i < length lines

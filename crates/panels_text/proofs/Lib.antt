@@ -1,5 +1,9 @@
 pub mod DifferenceLemmas
+pub mod MeantLemmas
 pub mod PlaceLemmas
+pub mod PushLemmas
+pub mod RefusalLemmas
+pub mod ReportLemmas
 pub mod RowLemmas
 pub mod TableLemmas
 pub mod Turns

@@ -1,5 +1,5 @@
 -- Lemmas on the lines of a bench.
-use Rattle.std.proofs.Common.{◌≡◌, ℕ, zero, suc, ◌+◌, ◌-◌, ◌<◌, ◌≤◌, Bool, true, false, cond, eqb, List, [], ◌∷◌, length, drop, Option, Some, None, refl, sym, ap, ◌∙◌, arith}
+use Rattle.std.proofs.Common.{◌≡◌, ℕ, zero, suc, ◌+◌, ◌-◌, ◌<◌, ◌≤◌, Bool, true, false, eqb, List, [], ◌∷◌, length, refl, arith}
 use Rattle.std.specs.List.{onto_first}
 use Rattle.std.specs.Prelude.{slice_get}
 use Rattle.panels_text.specs.Places.{begins_table, has_key, heads_from, is_head, key_line}

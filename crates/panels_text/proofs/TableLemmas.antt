@@ -3,7 +3,7 @@ use Rattle.std.proofs.Common.{◌≡◌, ℕ, zero, suc, ◌+◌, ◌<◌, Bool,
 use Rattle.std.specs.List.{list_any}
 use Rattle.std.specs.Prelude.{find, slice_get}
 use Rattle.std.specs.Str.{bytes_eq}
-use Rattle.toml.specs.Data.{Data, Members, member, item, table}
+use Rattle.toml.specs.Data.{Data, Members, item}
 use Rattle.toml.specs.View.{items_view, members_view, table_view, view}
 use Rattle.toml.specs.declared.value.Value.{Value, Table}
 use Rattle.toml.proofs.Views.{items_view-drop, view-Table}
@@ -38,7 +38,7 @@ places_step P [] x each here (suc k) = tt
 places_step P (y ∷ xs) x each here zero = each 0
 places_step P (y ∷ xs) x each here (suc k) = places_step (λ n. P (suc n)) xs x (λ n. each (suc n)) here k
 
-known_words : (word : List ℕ) (known : List (Bor (List ℕ))) → is_known word known ≡ list_any (λ other. bytes_eq other word) (words_of known)
+pub known_words : (word : List ℕ) (known : List (Bor (List ℕ))) → is_known word known ≡ list_any (λ other. bytes_eq other word) (words_of known)
 known_words word [] = refl
 known_words word (other ∷ known) = ap (λ rest. bytes_eq other.now word || rest) (known_words word known)
 
@@ -50,3 +50,11 @@ key_step known left others entry all here is same =
     let P : List (String Global × Value) → Type 0 = λ entries. find (λ key. not (list_any (λ other. bytes_eq other key) (words_of known))) (keys_of (members_view entries)) ≡ all in
     let Q : Bool → Type 0 = λ b. cond (not b) (Some (string_bytes entry.0)) (find (λ key. not (list_any (λ other. bytes_eq other key) (words_of known))) (keys_of (members_view others))) ≡ all in
     subst Q (sym (known_words (string_bytes entry.0) known) ∙ is) (subst P here same)
+
+-- and one that isn't is the first
+pub key_found : (known : List (Bor (List ℕ))) (left others : List (String Global × Value)) (entry : String Global × Value) (all : Option (List ℕ)) → left ≡ entry ∷ others → is_known (string_bytes entry.0) known ≡ false
+    → find (λ key. not (list_any (λ other. bytes_eq other key) (words_of known))) (keys_of (members_view left)) ≡ all → all ≡ Some (string_bytes entry.0)
+key_found known left others entry all here is same =
+    let P : List (String Global × Value) → Type 0 = λ entries. find (λ key. not (list_any (λ other. bytes_eq other key) (words_of known))) (keys_of (members_view entries)) ≡ all in
+    let Q : Bool → Type 0 = λ b. cond (not b) (Some (string_bytes entry.0)) (find (λ key. not (list_any (λ other. bytes_eq other key) (words_of known))) (keys_of (members_view others))) ≡ all in
+    sym (subst Q (sym (known_words (string_bytes entry.0) known) ∙ is) (subst P here same))

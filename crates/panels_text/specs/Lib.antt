@@ -3,6 +3,7 @@ pub mod CommandLine
 pub mod Differences
 pub mod Keys
 pub mod Lines
+pub mod Meant
 pub mod Places
 pub mod Refusals
 pub mod Reports

@@ -3,9 +3,12 @@ use Rattle.std.specs.Prelude.{ℕ, ◌+◌, Bool, ◌==◌, ◌||◌, if◌then�
 use Rattle.std.specs.Fmt.{decimal}
 use Rattle.std.specs.Str.{chars}
 use Rattle.std.specs.String.{string_bytes}
-use Rattle.panels_text.specs.Texts.{lines_of}
+use Rattle.panels_text.specs.Texts.{first_line, lines_of}
 use Rattle.panels_text.specs.Verdicts.{count_failed, is_fine, title}
 use Rattle.panels_text.specs.declared.cases.Case.{Case}
+use Rattle.serde_json.specs.Data as json
+use Rattle.serde_json.specs.Data.{Data}
+use Rattle.serde_json.specs.View.{items_of}
 
 -- the problems of a case
 abbrev pub problems_of : Case → List (List ℕ)
@@ -67,3 +70,35 @@ attribute name value = codes " " ++ (name ++ (codes "=\"" ++ (xml_text value ++ 
 -- the panel, or of what is of none the bench's file
 abbrev pub case_name : Case → List ℕ
 case_name case = if length (string_bytes case.panel) == 0 then string_bytes case.bench else string_bytes case.panel
+
+-- JUnit's XML: what isn't as it has to be, with its first line as the message; a case with all of them; and how many there are
+unfoldable pub failure_element : List ℕ → List ℕ
+failure_element problem = codes "      <failure" ++ (attribute (codes "message") (first_line problem) ++ (codes ">" ++ (xml_text problem ++ codes "</failure>\n")))
+
+unfoldable pub case_element : Case → List ℕ
+case_element case =
+    codes "    <testcase" ++ (attribute (codes "classname") (string_bytes case.bench) ++ (attribute (codes "name") (case_name case) ++ (codes ">\n" ++ (flat_map failure_element (problems_of case) ++ codes "    </testcase>\n"))))
+
+abbrev pub counts : List Case → List ℕ
+counts cases = codes "tests=\"" ++ (decimal (length cases) ++ (codes "\" failures=\"" ++ (decimal (count_failed cases) ++ codes "\" errors=\"0\"")))
+
+abbrev pub junit_head : List Case → List ℕ
+junit_head cases = codes "<?xml version=\"1.0\" encoding=\"UTF-8\"?>\n<testsuites " ++ (counts cases ++ (codes ">\n  <testsuite name=\"panels\" " ++ (counts cases ++ codes ">\n")))
+
+abbrev pub junit : List Case → List ℕ
+junit cases = junit_head cases ++ (flat_map case_element cases ++ codes "  </testsuite>\n</testsuites>\n")
+
+-- JSON: a case, with its problems as texts
+abbrev pub texts_data : List (List ℕ) → Data
+texts_data texts = json.array (items_of (map json.string texts))
+
+abbrev pub case_data : Case → Data
+case_data case =
+    json.object (json.member (codes "bench") (json.string (string_bytes case.bench)) (json.member (codes "ok") (json.boolean (is_fine case)) (json.member (codes "panel") (json.string (string_bytes case.panel))
+    (json.member (codes "problems") (texts_data (problems_of case)) json.no_members))))
+
+-- what JSON tells of all cases: the cases, how many failed and how many there are
+abbrev pub verdicts : List Case → Data
+verdicts cases =
+    json.object (json.member (codes "cases") (json.array (items_of (map case_data cases))) (json.member (codes "failed") (json.number (json.unsigned (count_failed cases)))
+    (json.member (codes "panels") (json.number (json.unsigned (length cases))) json.no_members)))

@@ -1,11 +1,11 @@
 -- Meaning. The values of a table of a bench.
-use Rattle.std.specs.Prelude.{◌≡◌, ℕ, ℤ, pos, ◌==◌, Bool, true, false, not, nat_le, if◌then◌else◌, List, [], ◌∷◌, ◌++◌, length, find, codes, Option, Some, None}
-use Rattle.std.specs.Borrow.{Bor}
+use Rattle.std.specs.Prelude.{◌≡◌, ℕ, pos, ◌==◌, Bool, true, false, not, nat_le, if◌then◌else◌, List, [], ◌∷◌, ◌++◌, length, find, codes, Option, Some, None}
 use Rattle.std.specs.List.{list_any}
 use Rattle.std.specs.Str.{bytes_eq}
 use Rattle.toml.specs.Data.{Data, Items, no_items, item, Members, no_members, member, get_member, array, boolean, integer, string, table}
 use Rattle.toml.specs.View.{table_view}
 use Rattle.panels_text.specs.Places.{IsFault, fault_text, line_of}
+use Rattle.panels_text.specs.Words.{serving}
 use Rattle.panels_text.specs.declared.failure.Failure.{Failure}
 use Rattle.panels_text.specs.declared.failure.Failure.TheVariants.{Said}
 use Rattle.panels_text.specs.declared.table.Part.{Part}
@@ -40,6 +40,15 @@ keys_of (member key value others) = key ∷ keys_of others
 -- the first key that isn't one of these
 abbrev pub unknown_key : Part → List (List ℕ) → Option (List ℕ)
 unknown_key part known = find (λ key. not (list_any (λ other. bytes_eq other key) known)) (keys_of (table_view part.table.now))
+
+-- what is said of a key that isn't one of these
+abbrev pub unknown_words : List ℕ → List (List ℕ) → List ℕ
+unknown_words key known = codes "there is no key " ++ (key ++ (codes " here: " ++ serving key known))
+
+-- what is refused is the first key that isn't one of these
+abbrev pub IsUnknown : Part → List (List ℕ) → Option (List ℕ) → Failure → Type 0
+IsUnknown part known None failure = ⊥
+IsUnknown part known (Some key) failure = IsFault (fault_words part key (unknown_words key known)) failure
 
 -- a key is missing, or its value is a text
 abbrev pub may_be_text : Option Data → Bool

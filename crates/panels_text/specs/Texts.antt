@@ -1,5 +1,5 @@
 -- Meaning. Texts, their lines and their words.
-use Rattle.std.specs.Prelude.{ℕ, ◌-◌, Bool, not, ◌==◌, ◌||◌, if◌then◌else◌, List, [], ◌∷◌, ◌++◌, map, filter, length, take, drop, Option, Some, None, nat_eq, unwrap_or, codes}
+use Rattle.std.specs.Prelude.{ℕ, ◌-◌, Bool, not, ◌==◌, if◌then◌else◌, List, [], ◌∷◌, ◌++◌, map, filter, length, take, drop, Option, Some, None, nat_eq, unwrap_or}
 use Rattle.std.specs.List.{before_first, ends_with, list_any, slice_split, starts_with}
 use Rattle.std.specs.Str.{bytes_eq, is_utf8}
 

@@ -1,6 +1,5 @@
 -- Meaning. Verdicts as a person reads them, and the shares of a check.
-use Rattle.std.specs.Prelude.{ℕ, ◌%◌, Bool, not, ◌||◌, ◌==◌, if◌then◌else◌, List, [], ◌∷◌, ◌++◌, length, filter, flat_map, codes}
-use Rattle.std.specs.Fmt.{decimal}
+use Rattle.std.specs.Prelude.{ℕ, ◌%◌, Bool, not, ◌||◌, ◌==◌, if◌then◌else◌, List, ◌++◌, length, filter, codes}
 use Rattle.std.specs.String.{string_bytes}
 use Rattle.panels_text.specs.declared.cases.Case.{Case}
 use Rattle.panels_text.specs.declared.shards.Shard.{Shard}

@@ -1,5 +1,5 @@
 -- Meaning. Words of a list, and those that may be meant by another.
-use Rattle.std.specs.Prelude.{◌≡◌, ◌⊎◌, ℕ, ◌*◌, ◌/◌, Bool, List, ◌++◌, length, map, nat_eq, nat_le, codes, Any}
+use Rattle.std.specs.Prelude.{◌≡◌, ◌⊎◌, ℕ, ◌*◌, ◌/◌, Bool, if◌then◌else◌, List, [], ◌∷◌, ◌++◌, length, map, nat_eq, nat_le, nat_lt, codes, Option, Some, None, Any}
 use Rattle.std.specs.Borrow.{Bor}
 use Rattle.std.specs.List.{list_any}
 use Rattle.std.specs.Str.{bytes_eq, chars}
@@ -27,6 +27,24 @@ most_changed word = length word / 3 * 2
 
 abbrev pub is_near : List ℕ → List ℕ → Bool
 is_near word other = nat_le (distance word other) (most_changed word)
+
+-- the nearer of two, and the first where both are as near
+abbrev pub nearer : List ℕ → List ℕ → Option (List ℕ) → List ℕ
+nearer word one None = one
+nearer word one (Some other) = if nat_lt (distance word other) (distance word one) then other else one
+
+-- the nearest of a list, where one is near, and of those that are as near the first
+abbrev pub nearest : List ℕ → List (List ℕ) → Option (List ℕ)
+nearest word [] = None
+nearest word (one ∷ others) = if is_near word one then Some (nearer word one (nearest word others)) else nearest word others
+
+abbrev pub serving_words : List (List ℕ) → Option (List ℕ) → List ℕ
+serving_words known None = codes "there are " ++ joined (codes ", ") known
+serving_words known (Some near) = codes "did you mean " ++ (near ++ codes "?")
+
+-- what would serve in place of a word: the nearest of those that are known, or all of them
+abbrev pub serving : List ℕ → List (List ℕ) → List ℕ
+serving word known = serving_words known (nearest word known)
 
 -- what would serve in place of a word: one of those that are known, or all of them
 abbrev pub Serves : List (Bor (List ℕ)) → List ℕ → Type 0

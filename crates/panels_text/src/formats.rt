@@ -1,14 +1,15 @@
 //! Verdicts for programs to read.
 
-ghost use Rattle.std.specs.Prelude.{◌≡◌, ◌++◌, encode_utf8, flat_map, map, IfOk, OnOk};
+ghost use Rattle.std.specs.Prelude.{◌≡◌, ◌++◌, codes, encode_utf8, flat_map, map, IfOk, OnOk};
 ghost use Rattle.std.specs.Option.{option_map_or};
 ghost use Rattle.std.specs.String.{string_bytes};
-ghost use Rattle.panels_text.specs.Reports.{attribute, case_name, comments, described, tap, tap_text, test_point, xml_of, xml_text};
+ghost use Rattle.panels_text.specs.Reports.{attribute, case_element, case_name, comments, counts, described, failure_element, junit, junit_head, tap, tap_text, test_point, verdicts, xml_of, xml_text};
+ghost use Rattle.serde_json.specs.Written.{compact_text};
 
 use crate::cases::{Case, count_failed, title};
 use crate::failure::Failure;
 use crate::texts::first_line;
-use serde::Serialize;
+use crate::values::verdicts;
 use std::alloc::{AllocError, Global};
 
 #[tactic(auto, unfolding(crate::specs::Reports::comments))]
@@ -131,7 +132,9 @@ fn push_attribute(text: &mut String, name: &str, value: &str) -> Result<(), Allo
 }
 
 /// Adds something that isn't as it has to be: its first line is the message.
-fn push_failure(text: &mut String, problem: &str) -> Result<(), AllocError> {
+fn push_failure(text: &mut String, problem: &str) -> Result<(), AllocError>
+    ensures { OnOk result (string_bytes text.new ≡ string_bytes text.old ++ failure_element problem.now) }
+{
     text.push_str("      <failure")?;
     push_attribute(text, "message", first_line(problem))?;
     text.push_str(">")?;
@@ -140,7 +143,9 @@ fn push_failure(text: &mut String, problem: &str) -> Result<(), AllocError> {
 }
 
 /// Adds what isn't as it has to be.
-fn push_failures(text: &mut String, problems: &[String]) -> Result<(), AllocError> {
+fn push_failures(text: &mut String, problems: &[String]) -> Result<(), AllocError>
+    ensures { OnOk result (string_bytes text.new ≡ string_bytes text.old ++ flat_map failure_element (map string_bytes problems.now)) }
+{
     for problem in problems {
         push_failure(text, problem.as_str())?;
     }
@@ -159,7 +164,9 @@ fn name_of(case: &Case) -> &str
 }
 
 /// Adds the test case of a case.
-fn push_testcase(text: &mut String, case: &Case) -> Result<(), AllocError> {
+fn push_testcase(text: &mut String, case: &Case) -> Result<(), AllocError>
+    ensures { OnOk result (string_bytes text.new ≡ string_bytes text.old ++ case_element case.now) }
+{
     text.push_str("    <testcase")?;
     push_attribute(text, "classname", case.bench.as_str())?;
     push_attribute(text, "name", name_of(case))?;
@@ -168,17 +175,34 @@ fn push_testcase(text: &mut String, case: &Case) -> Result<(), AllocError> {
     Ok(text.push_str("    </testcase>\n")?)
 }
 
-/// The cases as JUnit's XML.
-pub fn junit(alloc: Global, cases: &[Case]) -> Result<String, AllocError> {
+/// How many cases there are, and how many of them failed.
+fn counts_of(alloc: Global, cases: &[Case]) -> Result<String, AllocError>
+    ensures { IfOk result (λ text. string_bytes text ≡ counts cases.now) }
+{
+    let failed = count_failed(cases);
     let counts = format!(in alloc;
-        "tests=\"{}\" failures=\"{}\" errors=\"0\"",
-        cases.len(),
-        count_failed(cases)
+        "tests=\"{}\" failures=\"{failed}\" errors=\"0\"",
+        cases.len()
     )?;
+    Ok(counts)
+}
+
+/// What stands before the cases in JUnit's XML.
+fn junit_head(alloc: Global, cases: &[Case]) -> Result<String, AllocError>
+    ensures { IfOk result (λ text. string_bytes text ≡ junit_head cases.now) }
+{
+    let counts = counts_of(alloc, cases)?;
     let counts = counts.as_str();
-    let mut text = format!(in alloc;
+    format!(in alloc;
         "<?xml version=\"1.0\" encoding=\"UTF-8\"?>\n<testsuites {counts}>\n  <testsuite name=\"panels\" {counts}>\n"
-    )?;
+    )
+}
+
+/// The cases as JUnit's XML.
+pub fn junit(alloc: Global, cases: &[Case]) -> Result<String, AllocError>
+    ensures { IfOk result (λ text. string_bytes text ≡ junit cases.now) }
+{
+    let mut text = junit_head(alloc, cases)?;
     for case in cases {
         push_testcase(&mut text, case)?;
     }
@@ -186,44 +210,11 @@ pub fn junit(alloc: Global, cases: &[Case]) -> Result<String, AllocError> {
     Ok(text)
 }
 
-/// A case as JSON.
-#[derive(Drop, Serialize)]
-struct CaseRow<'a> {
-    bench: &'a str,
-    panel: &'a str,
-    ok: bool,
-    problems: &'a [String],
-}
-
-/// What JSON tells of all cases.
-#[derive(Drop, Serialize)]
-struct Verdicts<'a> {
-    panels: usize,
-    failed: usize,
-    cases: Vec<CaseRow<'a>>,
-}
-
 /// The cases as JSON.
-pub fn json(alloc: Global, cases: &[Case]) -> Result<String, Failure> {
-    let mut rows = Vec::new(alloc);
-    for case in cases {
-        rows.push(CaseRow {
-            bench: case.bench.as_str(),
-            panel: case.panel.as_str(),
-            ok: case.problems.is_empty(),
-            problems: case.problems.as_slice(),
-        })?;
-    }
-    let verdicts = Verdicts {
-        panels: cases.len(),
-        failed: count_failed(cases),
-        cases: rows,
-    };
-    match serde_json::to_string(alloc, &verdicts) {
-        Ok(mut text) => {
-            text.push_str("\n")?;
-            Ok(text)
-        }
-        Err(_) => Err(Failure::NoMemory),
-    }
+pub fn json(alloc: Global, cases: &[Case]) -> Result<String, Failure>
+    ensures { IfOk result (λ text. string_bytes text ≡ compact_text (verdicts cases.now) ++ codes "\n") }
+{
+    let mut text = verdicts(alloc, cases)?.to_string(alloc)?;
+    text.push_str("\n")?;
+    Ok(text)
 }

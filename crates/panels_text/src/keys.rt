@@ -1,8 +1,9 @@
 //! Keys by their names, and by those that other systems give them.
 
 ghost use Rattle.std.specs.Prelude.{◌≡◌, IfOk, option_map};
+ghost use Rattle.std.specs.Str.{chars};
 ghost use Rattle.std.specs.String.{string_bytes};
-ghost use Rattle.panels_text.specs.Keys.{OtherwiseTold, here_for, key_words};
+ghost use Rattle.panels_text.specs.Keys.{OtherwiseTold, here_for, key_words, only_one, serving_key};
 ghost use Rattle.tk_base.specs.Names.{key_of_character};
 
 use crate::nearest::serving;
@@ -62,13 +63,16 @@ pub(crate) fn here_for(name: &str) -> Option<&'static str>
 }
 
 /// The character of a text that is one.
-fn only_character(text: &str) -> Option<char> {
-    let mut characters = text.chars();
-    let first = characters.next()?;
-    match characters.next() {
-        None => Some(first),
-        Some(_) => None,
+fn only_character(text: &str) -> Option<char>
+    ensures { result ≡ only_one (chars text.now) }
+{
+    let mut only = None;
+    let mut is_first = true;
+    for character in text.chars() {
+        only = if is_first { Some(character) } else { None };
+        is_first = false;
     }
+    only
 }
 
 /// What is said of a name that is one character: the name of the key that types it.
@@ -86,7 +90,8 @@ fn key_words(alloc: Global, character: char) -> Result<String, AllocError>
 
 /// What serves in place of a name that no key has. An error where memory is refused.
 pub fn serving_key(alloc: Global, name: &str) -> Result<String, AllocError>
-    ensures { IfOk result (λ text. OtherwiseTold (here_for name.now) (string_bytes text)) }
+    ensures told { IfOk result (λ text. OtherwiseTold (here_for name.now) (string_bytes text)) }
+    ensures words { IfOk result (λ text. string_bytes text ≡ serving_key name.now) }
 {
     if let Some(here) = here_for(name) {
         return format!(in alloc; "did you mean {here}?");

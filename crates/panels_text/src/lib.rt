@@ -25,6 +25,7 @@ mod runner;
 mod shards;
 mod table;
 mod texts;
+mod values;
 
 pub use calls::Unread;
 pub use cases::{Case, count_failed, report, title};
@@ -41,7 +42,7 @@ pub use options::{Command, Format, Options, options_of};
 pub use place::line_at;
 pub use questions::{ANY, Question, Questions, questions_of};
 pub use refusals::{Refusal, refusal_in};
-pub use rows::rows_of;
+pub use rows::{rows_of, unescaped};
 pub use runner::{Runner, runner_of};
 pub use shards::{Shard, shard_named, shard_of};
 pub use table::{Part, in_range};

@@ -1,8 +1,16 @@
 //! What was likely meant by a word that isn't there.
 
+ghost use Rattle.std.specs.Prelude.{◌≡◌, ◌++◌, ◌∷◌, [], flat_map, map, take as front, IfOk, OnOk, option_map};
+ghost use Rattle.std.specs.String.{string_bytes};
+ghost use Rattle.panels_text.specs.Meant.{AreLikely, IsNearestFirst, beside, candidates, distinct, found_words, key_meant, likely_in, most_tried, plain, replacements, rows_of, with_word, words_of_kind};
+ghost use Rattle.panels_text.specs.Keys.{here_for};
+ghost use Rattle.panels_text.specs.Words.{words_of};
+ghost use Rattle.tk_options.specs.Names.{name_of};
+
 use crate::keys::here_for;
-use crate::nearest::distance_within;
+use crate::nearest::{distance_within, is_known};
 use std::alloc::{AllocError, Global};
+use tk_base::Kind;
 use tk_options::{KINDS, OptionRow, row_of};
 
 /// How many words are tried in place of one.
@@ -250,14 +258,23 @@ const OTHERWISE: [(&str, &str); 29] = [
     ("config", "write configure"),
 ];
 
-/// What to do with a word of Tcl or Tk that has no meaning here.
-pub fn otherwise(word: &str) -> Option<&'static str> {
-    for (other, words) in OTHERWISE {
-        if other == word {
-            return Some(words);
+/// What stands beside a word in a table.
+fn beside(word: &str, rows: &[(&'static str, &'static str)]) -> Option<&'static str>
+    ensures { option_map (λ words. words.now) result ≡ beside word.now (rows_of rows.now) }
+{
+    for row in rows {
+        if row.0 == word {
+            return Some(row.1);
         }
     }
     None
+}
+
+/// What to do with a word of Tcl or Tk that has no meaning here.
+pub fn otherwise(word: &str) -> Option<&'static str>
+    ensures { option_map (λ words. words.now) result ≡ beside word.now replacements }
+{
+    beside(word, OTHERWISE.as_slice())
 }
 
 /// Words that may be meant, each with how many letters are changed for it.
@@ -269,7 +286,9 @@ fn take<'a>(
     found: &mut Likely<'a>,
     word: &str,
     candidate: &'a str,
-) -> Result<(), AllocError> {
+) -> Result<(), AllocError>
+    ensures { OnOk result (plain found.new.items ≡ plain found.old.items ++ likely_in word.now (candidate.now ∷ [])) }
+{
     match distance_within(alloc, word, candidate)? {
         Some(distance) if distance <= word.len() / 2 => Ok(found.push((distance, candidate))?),
         _ => Ok(()),
@@ -282,7 +301,9 @@ fn take_all<'a>(
     found: &mut Likely<'a>,
     word: &str,
     candidates: &[&'a str],
-) -> Result<(), AllocError> {
+) -> Result<(), AllocError>
+    ensures { OnOk result (plain found.new.items ≡ plain found.old.items ++ likely_in word.now (words_of candidates.now)) }
+{
     for candidate in candidates {
         take(alloc, found, word, *candidate)?;
     }
@@ -295,43 +316,103 @@ fn take_options<'a>(
     found: &mut Likely<'a>,
     word: &str,
     rows: &'a [OptionRow],
-) -> Result<(), AllocError> {
+) -> Result<(), AllocError>
+    ensures { OnOk result (plain found.new.items ≡ plain found.old.items ++ likely_in word.now (map (λ row. name_of row.0) rows.now)) }
+{
     for row in rows {
         take(alloc, found, word, row.0.name())?;
     }
     Ok(())
 }
 
+/// Adds a script's own procedures that are near to a word.
+fn take_own<'a>(
+    alloc: Global,
+    found: &mut Likely<'a>,
+    word: &str,
+    own: &'a [String],
+) -> Result<(), AllocError>
+    ensures { OnOk result (plain found.new.items ≡ plain found.old.items ++ likely_in word.now (map string_bytes own.now)) }
+{
+    for name in own {
+        take(alloc, found, word, name.as_str())?;
+    }
+    Ok(())
+}
+
+/// Adds the options of kinds of widgets that are near to a word.
+fn take_kinds<'a>(
+    alloc: Global,
+    found: &mut Likely<'a>,
+    word: &str,
+    kinds: &[Kind],
+) -> Result<(), AllocError>
+    ensures { OnOk result (plain found.new.items ≡ plain found.old.items ++ likely_in word.now (flat_map words_of_kind kinds.now)) }
+{
+    for kind in kinds {
+        take_options(alloc, found, word, row_of(*kind).options)?;
+    }
+    Ok(())
+}
+
+/// Adds the name that a key has here, where a word is one that another system gives it.
+fn take_key<'a>(found: &mut Likely<'a>, word: &str) -> Result<(), AllocError>
+    ensures { OnOk result (plain found.new.items ≡ plain found.old.items ++ key_meant (here_for word.now)) }
+{
+    match here_for(word) {
+        Some(here) => Ok(found.push((0, here))?),
+        None => Ok(()),
+    }
+}
+
+/// All words that may be meant, in the order in which they are looked for.
+fn found_for<'a>(alloc: Global, word: &str, own: &'a [String]) -> Result<Likely<'a>, AllocError>
+    ensures { IfOk result (λ found. plain found.items ≡ candidates word.now (map string_bytes own.now)) }
+{
+    let mut found = Vec::new(alloc);
+    take_own(alloc, &mut found, word, own)?;
+    take_key(&mut found, word)?;
+    take_all(alloc, &mut found, word, WORDS.as_slice())?;
+    take_all(alloc, &mut found, word, EVENTS.as_slice())?;
+    take_kinds(alloc, &mut found, word, KINDS)?;
+    Ok(found)
+}
+
+/// Words that may be meant, the nearest first.
+fn nearest_first<'a>(mut found: Likely<'a>) -> Result<Likely<'a>, AllocError>
+    ensures { IfOk result (λ sorted. IsNearestFirst found.entry.items sorted.items) }
+{
+    found.sort_by_key(|found| found.0)?;
+    Ok(found)
+}
+
+/// Adds a word, unless it is there or as many are as are tried.
+fn push_new<'a>(words: &mut Vec<&'a str>, word: &'a str) -> Result<(), AllocError>
+    ensures { OnOk result (map (λ word. word.now) words.new.items ≡ with_word word.now words.old.items) }
+{
+    if words.len() < MOST_TRIED && !is_known(word, words.as_slice()) {
+        words.push(word)?;
+    }
+    Ok(())
+}
+
 /// The first words of those that may be meant, each once.
-fn first_of<'a>(alloc: Global, found: &[(usize, &'a str)]) -> Result<Vec<&'a str>, AllocError> {
+fn first_of<'a>(alloc: Global, found: &[(usize, &'a str)]) -> Result<Vec<&'a str>, AllocError>
+    ensures { IfOk result (λ words. map (λ word. word.now) words.items ≡ front most_tried (distinct (found_words found.now))) }
+{
     let mut words: Vec<&'a str> = Vec::new(alloc);
-    for (_, word) in found {
-        if words.len() < MOST_TRIED && !words.iter().any(|other| *other == *word) {
-            words.push(*word)?;
-        }
+    for one in found {
+        push_new(&mut words, one.1)?;
     }
     Ok(words)
 }
 
 /// The words that may be meant by one that isn't there, the nearest first: those that have a meaning somewhere, the options of widgets, the types of
 /// events and the keys, and a script's own procedures. An error where memory is refused.
-pub fn likely<'a>(
-    alloc: Global,
-    word: &str,
-    own: &'a [String],
-) -> Result<Vec<&'a str>, AllocError> {
-    let mut found = Vec::new(alloc);
-    for name in own {
-        take(alloc, &mut found, word, name.as_str())?;
-    }
-    if let Some(here) = here_for(word) {
-        found.push((0, here))?;
-    }
-    take_all(alloc, &mut found, word, WORDS.as_slice())?;
-    take_all(alloc, &mut found, word, EVENTS.as_slice())?;
-    for kind in KINDS {
-        take_options(alloc, &mut found, word, row_of(*kind).options)?;
-    }
-    found.sort_by_key(|found| found.0)?;
-    first_of(alloc, found.as_slice())
+pub fn likely<'a>(alloc: Global, word: &str, own: &'a [String]) -> Result<Vec<&'a str>, AllocError>
+    ensures { IfOk result (λ words. AreLikely word.now (map string_bytes own.now) (map (λ likely. likely.now) words.items)) }
+{
+    let found = found_for(alloc, word, own)?;
+    let sorted = nearest_first(found)?;
+    first_of(alloc, sorted.as_slice())
 }

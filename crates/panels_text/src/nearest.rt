@@ -1,8 +1,8 @@
 //! Words, and those that may have been meant.
 
-ghost use Rattle.std.specs.Prelude.{◌≡◌, false, true, IfOk, IfSome, MatchOption};
+ghost use Rattle.std.specs.Prelude.{◌≡◌, false, true, IfOk, IfSome, MatchOption, option_map};
 ghost use Rattle.std.specs.String.{string_bytes};
-ghost use Rattle.panels_text.specs.Words.{IsKnown, Serves, distance, is_known, is_near};
+ghost use Rattle.panels_text.specs.Words.{IsKnown, Serves, distance, is_known, is_near, nearest, serving, words_of};
 
 use crate::texts::joined;
 use std::alloc::{AllocError, Global};
@@ -32,7 +32,8 @@ pub(crate) fn nearest<'a>(
     word: &str,
     known: &[&'a str],
 ) -> Result<Option<&'a str>, AllocError>
-    ensures { IfOk result (λ found. IfSome found (λ near. IsKnown near.now known.now)) }
+    ensures known { IfOk result (λ found. IfSome found (λ near. IsKnown near.now known.now)) }
+    ensures nearest { IfOk result (λ found. option_map (λ near. near.now) found ≡ nearest word.now (words_of known.now)) }
 {
     let mut least = usize::MAX;
     let mut found = None;
@@ -49,7 +50,8 @@ pub(crate) fn nearest<'a>(
 
 /// What would serve in place of a word: the nearest of a list, or all of them.
 pub fn serving(alloc: Global, word: &str, known: &[&str]) -> Result<String, AllocError>
-    ensures { IfOk result (λ text. Serves known.now (string_bytes text)) }
+    ensures serves { IfOk result (λ text. Serves known.now (string_bytes text)) }
+    ensures words { IfOk result (λ text. string_bytes text ≡ serving word.now (words_of known.now)) }
 {
     let found = nearest(alloc, word, known)?;
     match found {

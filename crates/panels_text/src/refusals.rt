@@ -1,9 +1,12 @@
 //! What an answer says of the words of a question.
 
-ghost use Rattle.std.specs.Prelude.{◌≡◌, ◌≤◌, ◌<◌, length, IfSome};
-ghost use Rattle.panels_text.specs.Refusals.{index_of, is_count, refuses_count};
+ghost use Rattle.std.specs.Prelude.{◌≡◌, ◌≤◌, ◌<◌, false, length, nat_eq, Some, IfSome, option_map};
+ghost use Rattle.std.specs.List.{starts_with};
+ghost use Rattle.panels_text.specs.Refusals.{as_command, as_word, has_part, index_of, is_count, number_with, quoted, refused_as, refused_word, refuses_count, up_to_quote, word_in, words_asked};
+ghost use Rattle.panels_text.specs.Words.{words_of};
 
 use crate::questions::{ANY, Question};
+use crate::texts::behind;
 
 /// How the answers begin that quote a word which isn't there.
 const QUOTING: [&str; 7] = [
@@ -25,14 +28,30 @@ pub enum Refusal<'a> {
     Count,
 }
 
-/// The word that an answer quotes behind one of its beginnings.
-fn quoted(answer: &str) -> Option<&str> {
-    for front in QUOTING {
-        if let Some(rest) = answer.strip_prefix(front) {
-            return match rest.split_once('"') {
-                Some((word, _)) => Some(word),
-                None => None,
-            };
+/// What stands before the first quote.
+fn up_to_quote(text: &str) -> Option<&str>
+    ensures { option_map (λ word. word.now) result ≡ up_to_quote text.now }
+{
+    match text.split_once('"') {
+        Some((word, _)) => Some(word),
+        None => None,
+    }
+}
+
+/// Whether a text has a part.
+fn has_part(text: &str, part: &str) -> bool
+    ensures { result ≡ has_part part.now text.now }
+{
+    text.contains(part)
+}
+
+/// The word that an answer quotes behind the first of these beginnings that it has.
+fn quoted<'a>(fronts: &[&str], answer: &'a str) -> Option<&'a str>
+    ensures { option_map (λ word. word.now) result ≡ quoted (words_of fronts.now) answer.now }
+{
+    for front in fronts {
+        if let Some(rest) = behind(answer, *front) {
+            return up_to_quote(rest);
         }
     }
     None
@@ -40,41 +59,79 @@ fn quoted(answer: &str) -> Option<&str> {
 
 /// The first word of a question that has a word in it, from one on.
 fn index_of(question: &Question, first: usize, wanted: &str) -> Option<usize>
-    ensures { IfSome result (λ index. (first ≤ index) × (index < length question.now.words.items)) }
+    ensures within { IfSome result (λ index. (first ≤ index) × (index < length question.now.words.items)) }
+    ensures number { result ≡ number_with 0 first wanted.now (words_asked question.now) }
 {
     for (index, word) in question.words.iter().enumerate() {
-        if index >= first && word.as_str().contains(wanted) {
+        if index >= first && has_part(word.as_str(), wanted) {
             return Some(index);
         }
     }
     None
 }
 
+/// Whether a text begins with another.
+fn begins(text: &str, front: &str) -> bool
+    ensures { result ≡ starts_with nat_eq text.now front.now }
+{
+    text.starts_with(front)
+}
+
+/// The first word of a question, a command's name, where it is that of this number.
+fn as_command(word: &str, index: Option<usize>) -> Option<Refusal<'_>>
+    ensures word { word_in result ≡ as_command word.now index }
+    ensures count { is_count result ≡ false }
+    ensures within { IfSome (index_of result) (λ number. index ≡ Some number) }
+{
+    match index {
+        Some(0) => Some(Refusal::Word { word, index: 0 }),
+        _ => None,
+    }
+}
+
+/// The word of a question that has this number.
+fn as_word(word: &str, index: Option<usize>) -> Option<Refusal<'_>>
+    ensures word { word_in result ≡ as_word word.now index }
+    ensures count { is_count result ≡ false }
+    ensures within { IfSome (index_of result) (λ number. index ≡ Some number) }
+{
+    match index {
+        Some(index) => Some(Refusal::Word { word, index }),
+        None => None,
+    }
+}
+
+/// Where the word that an answer quotes stands in a question.
+fn refused_as<'a>(question: &Question, answer: &str, word: &'a str) -> Option<Refusal<'a>>
+    ensures word { word_in result ≡ refused_as (words_asked question.now) answer.now (Some word.now) }
+    ensures count { is_count result ≡ false }
+    ensures within { IfSome (index_of result) (λ index. index < length question.now.words.items) }
+{
+    if word.is_empty() || has_part(word, ANY) {
+        return None;
+    }
+    if begins(answer, "invalid command name ") {
+        as_command(word, index_of(question, 0, word))
+    } else {
+        as_word(word, index_of(question, 1, word))
+    }
+}
+
 /// What an answer says that a question has wrong; nothing where it says nothing of its words.
 pub fn refusal_in<'a>(question: &Question, answer: &'a str) -> Option<Refusal<'a>>
     ensures count { is_count result ≡ refuses_count question.now answer.now }
     ensures within { IfSome (index_of result) (λ index. index < length question.now.words.items) }
+    ensures word { word_in result ≡ refused_word question.now answer.now }
 {
-    if answer.starts_with("wrong # args: ") {
+    if begins(answer, "wrong # args: ") {
         return if question.is_whole {
             Some(Refusal::Count)
         } else {
             None
         };
     }
-    let Some(word) = quoted(answer) else {
-        return None;
-    };
-    if word.is_empty() || word.contains(ANY) {
-        return None;
-    }
-    let first = if answer.starts_with("invalid command name ") {
-        0
-    } else {
-        1
-    };
-    match index_of(question, first, word) {
-        Some(index) if first == 1 || index == 0 => Some(Refusal::Word { word, index }),
-        _ => None,
+    match quoted(QUOTING.as_slice(), answer) {
+        Some(word) => refused_as(question, answer, word),
+        None => None,
     }
 }

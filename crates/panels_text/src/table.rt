@@ -31,7 +31,7 @@ impl<'a> Part<'a> {
     ghost use Rattle.toml.specs.Data.{boolean, string};
     ghost use Rattle.toml.specs.View.{items_view, table_view, view};
     ghost use Rattle.panels_text.specs.Places.{IsFault};
-    ghost use Rattle.panels_text.specs.Tables.{IsEntry, IsRefused, IsSaid, fault_words, line, may_be_boolean, may_be_text, number_in, tables_of, unknown_key, value_of, values_of};
+    ghost use Rattle.panels_text.specs.Tables.{IsEntry, IsRefused, IsSaid, IsUnknown, fault_words, line, may_be_boolean, may_be_text, number_in, tables_of, unknown_key, unknown_words, value_of, values_of};
     ghost use Rattle.panels_text.specs.Words.{words_of};
 
     /// The line that has a key.
@@ -65,7 +65,9 @@ impl<'a> Part<'a> {
     }
 
     /// That there is no such key, and which one would serve.
-    fn unknown(&self, alloc: Global, key: &str, known: &[&str]) -> Failure {
+    fn unknown(&self, alloc: Global, key: &str, known: &[&str]) -> Failure
+        ensures { IsFault (fault_words self.now key.now (unknown_words key.now (words_of known.now))) result }
+    {
         let Ok(serves) = serving(alloc, key, known) else {
             return Failure::NoMemory;
         };
@@ -77,7 +79,8 @@ impl<'a> Part<'a> {
 
     /// Refuses a key that isn't in the list: the first of them.
     pub fn check_keys(&self, alloc: Global, known: &[&str]) -> Result<(), Failure>
-        ensures { OnOk result (unknown_key self.now (words_of known.now) ≡ None) }
+        ensures known { OnOk result (unknown_key self.now (words_of known.now) ≡ None) }
+        ensures unknown { IfErr result (λ failure. IsUnknown self.now (words_of known.now) (unknown_key self.now (words_of known.now)) failure) }
     {
         for (key, _) in self.table.iter() {
             let word = key.as_str();

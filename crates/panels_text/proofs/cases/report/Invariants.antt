@@ -1,5 +1,5 @@
-use Rattle.std.proofs.Common.{◌≡◌, ◌++◌, ◌+◌, drop, length, map, string_bytes}
-use Rattle.std.specs.Prelude.{encode_utf8_all, flat_map}
+use Rattle.std.proofs.Common.{◌≡◌, ◌++◌, drop, string_bytes}
+use Rattle.std.specs.Prelude.{flat_map}
 use Rattle.panels_text.specs.Reports.{case_lines}
 use Rattle.panels_text.proofs.cases.report.Given as goal
 

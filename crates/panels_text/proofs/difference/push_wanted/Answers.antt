@@ -1,5 +1,4 @@
 use Rattle.panels_text.proofs.DifferenceLemmas.{wanted_step}
-use Rattle.std.proofs.Common.{arith}
 use Rattle.panels_text.proofs.difference.push_wanted.Goals as goal
 
 pub loop-line-preserved : goal.loop-line-preserved

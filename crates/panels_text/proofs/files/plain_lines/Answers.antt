@@ -1,6 +1,5 @@
-use Rattle.std.proofs.Common.{◌≡◌, ◌++◌, ◌∷◌, ℕ, List, Bor, [], length, drop, map, not, cond, eqb, ap, sym, arith, lit<}
+use Rattle.std.proofs.Common.{ℕ, List, Bor, map, ap, arith, lit<}
 use Rattle.std.proofs.lemmas.Grind.{common_steps}
-use Rattle.std.proofs.lemmas.Bool.Decides.{nat_tests}
 use Rattle.std.proofs.lemmas.Iterator.Consumers.{YieldsList-end, YieldsList-turn}
 use Rattle.panels_text.specs.Texts.{plain_line}
 use Rattle.std.proofs.lemmas.Iterator.Splits.{YieldsList-from_str_split}

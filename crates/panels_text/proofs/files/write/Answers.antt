@@ -1,4 +1,4 @@
-use Rattle.std.proofs.Common.{ℕ, List, ◌++◌, ◌≡◌, ◌∙◌, subst}
+use Rattle.std.proofs.Common.{ℕ, List, ◌∙◌, subst}
 use Rattle.std.specs.Prelude.{codes}
 use Rattle.panels_text.specs.Places.{IsFault, fault_text}
 use Rattle.panels_text.proofs.files.write.Goals as goal

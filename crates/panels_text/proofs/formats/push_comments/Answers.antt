@@ -1,8 +1,7 @@
-use Rattle.std.proofs.Common.{◌≡◌, ◌++◌, ◌∷◌, ℕ, List, Bor, [], length, drop, map, not, cond, eqb, ap, sym, arith, lit<}
+use Rattle.std.proofs.Common.{ℕ, List, Bor, ap, arith, lit<}
 use Rattle.std.proofs.lemmas.Grind.{common_steps}
-use Rattle.std.proofs.lemmas.Bool.Decides.{nat_tests}
 use Rattle.std.proofs.lemmas.Iterator.Consumers.{YieldsList-end, YieldsList-turn}
-use Rattle.std.specs.Prelude.{encode_utf8, filter, flat_map}
+use Rattle.std.specs.Prelude.{flat_map}
 use Rattle.panels_text.specs.Reports.{comment, comments}
 use Rattle.std.proofs.lemmas.Iterator.Splits.{YieldsList-from_str_split}
 use Rattle.panels_text.specs.Texts.{lines_of}

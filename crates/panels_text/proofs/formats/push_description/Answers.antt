@@ -1,8 +1,8 @@
-use Rattle.std.proofs.Common.{◌≡◌, ◌++◌, ◌∷◌, ℕ, List, Bor, [], length, drop, map, not, cond, eqb, ap, sym, arith, lit<}
+use Rattle.std.proofs.Common.{ℕ, List, ap, arith}
 use Rattle.std.proofs.lemmas.Grind.{common_steps}
 use Rattle.std.proofs.lemmas.Bool.Decides.{nat_tests}
 use Rattle.std.proofs.lemmas.Iterator.Consumers.{YieldsList-end, YieldsList-turn}
-use Rattle.std.specs.Prelude.{encode_utf8, filter, flat_map}
+use Rattle.std.specs.Prelude.{flat_map}
 use Rattle.panels_text.specs.Reports.{described, tap_text}
 use Rattle.std.proofs.lemmas.Iterator.{YieldsList-from_chars}
 use Rattle.std.specs.Str.{chars}

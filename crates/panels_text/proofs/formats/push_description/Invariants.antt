@@ -1,4 +1,4 @@
-use Rattle.std.proofs.Common.{◌≡◌, ◌++◌, ◌+◌, drop, length, map, string_bytes}
+use Rattle.std.proofs.Common.{◌≡◌, ◌++◌, drop, length, string_bytes}
 use Rattle.std.specs.Prelude.{flat_map}
 use Rattle.std.specs.Str.{chars}
 use Rattle.panels_text.specs.Reports.{described}

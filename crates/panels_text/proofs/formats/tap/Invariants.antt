@@ -1,5 +1,4 @@
-use Rattle.std.proofs.Common.{◌≡◌, ◌++◌, ◌+◌, drop, length, map, string_bytes}
-use Rattle.std.specs.Prelude.{encode_utf8_all, flat_map}
+use Rattle.std.proofs.Common.{◌≡◌, ◌++◌, ◌+◌, drop, string_bytes}
 use Rattle.panels_text.specs.Reports.{tests_from}
 use Rattle.panels_text.proofs.formats.tap.Given as goal
 

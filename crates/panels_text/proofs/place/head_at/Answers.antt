@@ -1,11 +1,11 @@
-use Rattle.std.proofs.Common.{◌≡◌, ◌++◌, ◌∷◌, ℕ, ◌+◌, ◌-◌, ◌<◌, ◌≤◌, List, Bor, [], Some, length, drop, subst, sym, ap, ◌∙◌, arith, lit<}
+use Rattle.std.proofs.Common.{◌≡◌, ◌++◌, ◌∷◌, ℕ, ◌+◌, ◌-◌, ◌<◌, List, Bor, [], Some, length, drop, subst, sym, ap, ◌∙◌, arith, lit<}
 use Rattle.std.proofs.lemmas.Iterator.Consumers.{YieldsList-end, YieldsList-turn}
 use Rattle.std.proofs.lemmas.Iterator.Splits.{YieldsList-from_str_split}
 use Rattle.std.proofs.lemmas.List.{length_push}
 use Rattle.std.specs.Prelude.{slice_get}
 use Rattle.panels_text.specs.Texts.{lines_of}
 use Rattle.panels_text.proofs.Turns.{turn_more, turn_none}
-use Rattle.panels_text.specs.Places.{heads_from, is_head}
+use Rattle.panels_text.specs.Places.{heads_from}
 use Rattle.panels_text.proofs.PlaceLemmas.{get-later, heads-hit, heads-miss, length-lines_of}
 use Rattle.panels_text.proofs.place.head_at.Goals as goal
 

@@ -1,9 +1,9 @@
-use Rattle.std.proofs.Common.{◌≡◌, ◌++◌, ◌∷◌, ℕ, ◌+◌, ◌-◌, ◌<◌, ◌≤◌, List, Bor, [], length, length-drop, drop, subst, sym, ap, ◌∙◌, arith, lit<}
+use Rattle.std.proofs.Common.{◌≡◌, ◌++◌, ◌∷◌, ℕ, ◌+◌, List, Bor, [], length, length-drop, drop, subst, sym, ◌∙◌, arith, lit<}
 use Rattle.std.proofs.lemmas.Iterator.Adapters.{YieldsList-from_skip}
 use Rattle.std.proofs.lemmas.Iterator.Consumers.{YieldsList-end, YieldsList-turn}
 use Rattle.std.proofs.lemmas.Iterator.Splits.{YieldsList-from_str_split}
 use Rattle.std.proofs.lemmas.List.{length_push}
-use Rattle.panels_text.specs.Places.{begins_table, has_key, key_line}
+use Rattle.panels_text.specs.Places.{key_line}
 use Rattle.panels_text.specs.Texts.{lines_of}
 use Rattle.panels_text.proofs.PlaceLemmas.{key-end, key-hit, key-miss, key-none, length-lines_of}
 use Rattle.panels_text.proofs.Turns.{turn_more, turn_none}

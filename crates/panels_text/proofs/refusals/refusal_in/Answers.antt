@@ -1,16 +1,26 @@
-use Rattle.std.proofs.Common.{false, refl, sym}
-use Rattle.std.proofs.lemmas.Str.Pattern.{starts_text}
-use Rattle.std.specs.Prelude.{codes}
+use Rattle.std.proofs.Common.{◌≡◌, false, cond, Some, None, option_map, ap, sym, ◌∙◌}
+use Rattle.std.specs.List.{starts_with}
+use Rattle.std.specs.Prelude.{codes, nat_eq}
+use Rattle.panels_text.specs.Refusals.{quoted, quoting, refused_as, words_asked}
+use Rattle.panels_text.specs.Words.{words_of}
 use Rattle.panels_text.proofs.refusals.refusal_in.Goals as goal
 
-pub returns-in_default-clause-count : goal.returns-in_default-clause-count
-returns-in_default-clause-count c = rw (sym (starts_text false (codes "wrong # args: ") c.args.answer.now c.if-starts_with.ensures.cases)) refl
+pub returns-in-Some-clause-word : goal.returns-in-Some-clause-word
+unfolding quoting
+returns-in-Some-clause-word c =
+    let answer = c.args.answer.now in
+    let words = words_asked c.args.question.now in
+    let table : words_of c.as_slice.result.now ≡ quoting = ap words_of c.as_slice.ensures in
+    let found : quoted quoting answer ≡ Some c.in-Some.word.now = ap (λ fronts. quoted fronts answer) (sym table) ∙ (sym c.quoted.ensures ∙ ap (option_map (λ word. word.now)) c.in-Some.is) in
+    let other : starts_with nat_eq answer (codes "wrong # args: ") ≡ false = sym c.begins.ensures ∙ c.if-begins.false in
+    c.refused_as.ensures.word ∙ (ap (refused_as words answer) (sym found) ∙ sym (ap (λ b. cond b None (refused_as words answer (quoted quoting answer))) other))
 
-pub returns-then-is_empty-clause-count : goal.returns-then-is_empty-clause-count
-returns-then-is_empty-clause-count c = rw (sym (starts_text false (codes "wrong # args: ") c.args.answer.now c.if-starts_with.ensures.cases)) refl
-
-pub returns-in-Some-index_of-clause-count : goal.returns-in-Some-index_of-clause-count
-returns-in-Some-index_of-clause-count c = rw (sym (starts_text false (codes "wrong # args: ") c.args.answer.now c.if-starts_with.ensures.cases)) refl
-
-pub returns-in_default-index_of-clause-count : goal.returns-in_default-index_of-clause-count
-returns-in_default-index_of-clause-count c = rw (sym (starts_text false (codes "wrong # args: ") c.args.answer.now c.if-starts_with.ensures.cases)) refl
+pub returns-in-None-clause-word : goal.returns-in-None-clause-word
+unfolding quoting
+returns-in-None-clause-word c =
+    let answer = c.args.answer.now in
+    let words = words_asked c.args.question.now in
+    let table : words_of c.as_slice.result.now ≡ quoting = ap words_of c.as_slice.ensures in
+    let found : quoted quoting answer ≡ None = ap (λ fronts. quoted fronts answer) (sym table) ∙ (sym c.quoted.ensures ∙ ap (option_map (λ word. word.now)) c.in-None.is) in
+    let other : starts_with nat_eq answer (codes "wrong # args: ") ≡ false = sym c.begins.ensures ∙ c.if-begins.false in
+    ap (refused_as words answer) (sym found) ∙ sym (ap (λ b. cond b None (refused_as words answer (quoted quoting answer))) other)

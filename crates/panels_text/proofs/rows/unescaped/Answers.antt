@@ -1,11 +1,11 @@
-use Rattle.std.proofs.Common.{◌≡◌, ◌++◌, ℕ, List, ap, ◌∙◌, sym, arith, rules}
+use Rattle.std.proofs.Common.{ℕ, List, ap, ◌∙◌, arith}
 use Rattle.std.proofs.lemmas.Bool.{ne_eqb}
 use Rattle.std.proofs.lemmas.Grind.{common_steps}
 use Rattle.std.proofs.lemmas.Iterator.{YieldsList-from_chars}
 use Rattle.std.proofs.lemmas.Iterator.Consumers.{YieldsList-end, YieldsList-turn}
 use Rattle.std.specs.Prelude.{encode_utf8_all}
 use Rattle.std.specs.Str.{chars}
-use Rattle.panels_text.specs.Rows.{escaped, unescaped}
+use Rattle.panels_text.specs.Rows.{unescaped}
 use Rattle.panels_text.proofs.RowLemmas.{backslash_step, escaped_step, last_step, plain_step, unescaped-escaped}
 use Rattle.panels_text.proofs.Turns.{turn_more, turn_none}
 use Rattle.panels_text.proofs.rows.unescaped.Goals as goal

@@ -1,6 +1,5 @@
-use Rattle.std.proofs.Common.{◌≡◌, ℕ, ◌++◌, List, map, drop, length, IfSome}
+use Rattle.std.proofs.Common.{◌≡◌, ℕ, map, drop, length, IfSome}
 use Rattle.std.specs.Prelude.{slice_get}
-use Rattle.toml.specs.Data.{Members}
 use Rattle.toml.specs.View.{items_view, table_view}
 use Rattle.panels_text.specs.Tables.{IsEntry, tables_in, tables_onto}
 use Rattle.panels_text.proofs.table.Part.entries.Given as goal

@@ -1,0 +1,8 @@
+use Rattle.std.proofs.Common.{◌≡◌, ◌++◌, drop, string_bytes}
+use Rattle.std.specs.Prelude.{flat_map}
+use Rattle.panels_text.specs.Reports.{case_element}
+use Rattle.panels_text.proofs.formats.junit.Given as goal
+
+-- what was added, and what is left, is all
+abbrev pub invariant-loop-case : goal.invariant-loop-case
+invariant-loop-case l = string_bytes l.text ++ flat_map case_element (drop l.case-index l.cases) ≡ string_bytes l.initial.text ++ flat_map case_element l.cases

@@ -1,2 +1,4 @@
+mod Filming
 mod Histories
 mod Pictures
+mod Tracing

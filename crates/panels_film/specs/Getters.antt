@@ -1,5 +1,5 @@
 -- Meaning. Who gets the presses and the keys of a person.
-use Rattle.std.specs.Prelude.{ℕ, ◌-◌, Bool, ◌&&◌, if◌then◌else◌, List, [], ◌∷◌, codes, Option, Some, None, position, slice_get}
+use Rattle.std.specs.Prelude.{ℕ, ◌-◌, Bool, ◌&&◌, if◌then◌else◌, List, [], ◌∷◌, ◌++◌, codes, Option, Some, None, position, slice_get}
 use Rattle.tk_app.specs.Inspection.{focus_of}
 use Rattle.tk_app.specs.Seen.{Meaning}
 use Rattle.tk_base.specs.declared.rect.Rect.{Rect}
@@ -8,6 +8,7 @@ use Rattle.tk_host.specs.Inspection.{seen}
 use Rattle.tk_route.specs.Screen.{is_within}
 use Rattle.tk_route.specs.declared.line.HostLine.{HostLine}
 use Rattle.tk_route.specs.declared.line.HostLine.TheVariants.{Press, Keydown}
+use Rattle.tk_session.specs.declared.session.AppBlock.{AppBlock}
 use Rattle.panels.specs.Course.{section_at}
 use Rattle.panels.specs.Panes.{has_point}
 use Rattle.panels.specs.Shapes.{Drawn, shapes_of}
@@ -15,6 +16,8 @@ use Rattle.panels_film.specs.declared.pointed.Getter.{Getter}
 use Rattle.panels_film.specs.declared.pointed.Getter.TheVariants as getters
 use Rattle.panels_film.specs.declared.screens.Spot.{Spot}
 use Rattle.panels_film.specs.Screens.{Known}
+use Rattle.panels_text.specs.Lines.{name_at}
+use Rattle.panels_text.specs.Texts.{text_of}
 
 -- who gets a line: nobody, as the pointer has come nowhere or is in no panel, or no panel has the keyboard; or a window of the panel in a slot
 pub data Told : Type 0 where
@@ -38,6 +41,17 @@ slot_of NoPanel = None
 slot_of NoKeyboard = None
 slot_of (Pointed slot path) = Some slot
 slot_of (Focused slot path) = Some slot
+
+abbrev pub came_to : List AppBlock → ℕ → List ℕ → List ℕ
+came_to panels slot path = codes "it came to " ++ (text_of path ++ (codes " of " ++ name_at panels slot))
+
+-- who gets it in words, of these panels
+abbrev pub words : List AppBlock → Told → List ℕ
+words panels NoPointer = codes "the pointer has come nowhere"
+words panels NoPanel = codes "it came to no panel"
+words panels NoKeyboard = codes "no panel has the keyboard"
+words panels (Pointed slot path) = came_to panels slot path
+words panels (Focused slot path) = came_to panels slot path ++ codes ", which has the keyboard"
 
 -- ---- the pointer
 

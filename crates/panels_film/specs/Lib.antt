@@ -7,3 +7,4 @@ pub mod Notes
 pub mod Pages
 pub mod Scenes
 pub mod Screens
+pub mod Traces

@@ -8,11 +8,12 @@ ghost use Rattle.tk_host.specs.Held.{AdvanceTo, Call, held_after};
 ghost use Rattle.tk_host.specs.Sections.{sections_after};
 ghost use Rattle.tkhost.specs.Calls.{lining};
 ghost use Rattle.tkhost.specs.Play.{MakesServices, services_in};
-ghost use Rattle.panels_film.specs.Films.{IsCounted, calls_until, earlier};
+ghost use Rattle.std.specs.Option.{option_copied};
+ghost use Rattle.panels_film.specs.Films.{IsCounted, IsFilm, begun as begun_calls, calls_until, come, earlier, is_alike, is_repeated, later_than, line_behind, moment_behind, shown, shown_at, timer_behind, up_to, with_frame};
 ghost use Rattle.panels_film.specs.Moments.{count_until};
 
 use crate::looks::{WindowLook, looks_of};
-use crate::moments::{count_until, until};
+use crate::moments::{between, count_until, until};
 use crate::playing::{begun, hand, reach, sections_now};
 use panels::{Live, live_with, next_due};
 use std::alloc::{AllocError, Global};
@@ -55,30 +56,53 @@ fn earlier(one: Option<u64>, other: Option<u64>) -> Option<u64>
     }
 }
 
+/// A moment, where it isn't behind the end.
+fn up_to(end: u64, moment: Option<u64>) -> Option<u64>
+    ensures { result ≡ up_to end moment }
+{
+    match moment {
+        Some(moment) if moment <= end => Some(moment),
+        _ => None,
+    }
+}
+
 /// The first moment after a frame at which a timer is due, up to the end.
-fn next_timer(alloc: Global, frame: &Frame, end: u64) -> Result<Option<u64>, AllocError> {
+fn next_timer(alloc: Global, frame: &Frame, end: u64) -> Result<Option<u64>, AllocError>
+    ensures { IfOk result (λ next. next ≡ timer_behind end (shown frame.now)) }
+{
     let mut next = None;
     for section in &frame.sections {
         next = earlier(next, next_due(alloc, frame.moment, section.as_slice())?);
     }
-    Ok(next.filter(|moment| *moment <= end))
+    Ok(up_to(end, next))
 }
 
 /// Whether two frames show the same.
-fn is_alike(one: &Frame, other: &Frame) -> bool {
+fn is_alike(one: &Frame, other: &Frame) -> bool
+    ensures { result ≡ is_alike one.now other.now }
+{
     one.sections.as_slice() == other.sections.as_slice()
         && one.looks.as_slice() == other.looks.as_slice()
+}
+
+/// Whether a frame shows the same as one before it, and no line came since.
+fn is_repeated(last: Option<&Frame>, frame: &Frame) -> bool
+    ensures { result ≡ is_repeated (option_copied last.entry) frame.now }
+{
+    match last {
+        Some(last) => last.count == frame.count && is_alike(last, frame),
+        None => false,
+    }
 }
 
 /// Adds a frame where it shows something else than the last one, or lines came since.
 fn push_changed(frames: &mut Vec<Frame>, frame: Frame) -> Result<(), AllocError>
     ensures most { OnOk result (length frames.new.items ≤ length frames.old.items + 1) }
     ensures counted { (events : List Event) → IsCounted events frame → All (IsCounted events) frames.old.items → OnOk result (All (IsCounted events) frames.new.items) }
+    ensures frames { OnOk result (frames.new.items ≡ with_frame frames.old.items frame) }
 {
-    if let Some(last) = frames.last() {
-        if last.count == frame.count && is_alike(last, &frame) {
-            return Ok(());
-        }
+    if is_repeated(frames.last(), &frame) {
+        return Ok(());
     }
     Ok(frames.push(frame)?)
 }
@@ -119,36 +143,58 @@ fn frame_now<M: AliasService>(
     })
 }
 
-/// Hands on the lines behind so many that come up to a moment, comes to the moment, and tells what so many panels show then.
+/// Hands on the lines of a session behind so many that come up to a moment, comes to the moment, and tells what its panels show then.
 fn frame_next<M: AliasService>(
     alloc: Global,
     live: &mut Live<M>,
-    panels: usize,
-    events: &[EventLine],
+    session: &Session,
     before: usize,
     moment: u64,
 ) -> Result<Frame, AllocError>
     ensures moment { IfOk result (λ frame. frame.moment ≡ moment) }
-    ensures count { IfOk result (λ frame. frame.count ≡ count_until moment events.now) }
+    ensures count { IfOk result (λ frame. frame.count ≡ count_until moment session.now.events) }
+    ensures history { (calls : List (Call M)) → live.old.held ≡ held_after M.answer calls → OnOk result (live.new.held ≡ held_after M.answer (come session.now calls before moment)) }
+    ensures shown { (calls : List (Call M)) → live.old.held ≡ held_after M.answer calls →
+        IfOk result (λ frame. shown frame ≡ shown_at M.answer session.now (come session.now calls before moment) moment) }
 {
+    let events = session.events();
     let count = count_until(events, moment);
-    hand(live, events.get(before..count).unwrap_or(&[]))?;
+    hand(live, between(events, before, count))?;
     reach(live, moment)?;
-    frame_now(alloc, live, panels, moment, count)
+    let frame = frame_now(alloc, live, session.apps().len(), moment, count)?;
+    Ok(frame)
 }
 
-/// The next moment after a frame at which a line comes or a timer is due.
-fn next_moment(
-    alloc: Global,
-    frame: &Frame,
-    events: &[EventLine],
-    end: u64,
-) -> Result<Option<u64>, AllocError> {
-    let line = events.get(frame.count).map(|event| event.moment);
-    Ok(earlier(next_timer(alloc, frame, end)?, line))
+/// The moment of the first line that hasn't come by a frame.
+fn next_line(events: &[EventLine], frame: &Frame) -> Option<u64>
+    ensures { result ≡ line_behind events.now (shown frame.now) }
+{
+    match events.get(frame.count) {
+        Some(event) => Some(event.moment),
+        None => None,
+    }
 }
 
-/// What panels show from moment to moment, up to the end, while they are handed lines.
+/// A moment, where it is later than another.
+fn later_than(moment: u64, other: Option<u64>) -> Option<u64>
+    ensures { result ≡ later_than moment other }
+{
+    match other {
+        Some(other) if moment < other => Some(other),
+        _ => None,
+    }
+}
+
+/// The next moment after a frame at which a line of a session comes or a timer is due.
+fn next_moment(alloc: Global, session: &Session, frame: &Frame) -> Result<Option<u64>, AllocError>
+    ensures { IfOk result (λ next. next ≡ moment_behind session.now (shown frame.now)) }
+{
+    let timer = next_timer(alloc, frame, session.end())?;
+    let next = earlier(timer, next_line(session.events(), frame));
+    Ok(later_than(frame.moment, next))
+}
+
+/// What the panels of a session show from moment to moment, up to the end, while they are handed its lines.
 fn film_of<M: AliasService>(
     alloc: Global,
     mut live: Live<M>,
@@ -156,25 +202,18 @@ fn film_of<M: AliasService>(
 ) -> Result<Film, AllocError>
     ensures most { IfOk result (λ film. length film.frames.items ≤ 500) }
     ensures counted { IfOk result (λ film. All (IsCounted session.now.events) film.frames.items) }
+    ensures moments { (calls : List (Call M)) → live.held ≡ held_after M.answer calls → IfOk result (IsFilm M.answer session.now calls) }
 {
     let mut frames: Vec<Frame> = Vec::new(alloc);
-    let events = session.events();
     let (mut moment, mut count) = (0, 0);
     'frames: for _number in 0..MOST_FRAMES {
-        let frame = frame_next(
-            alloc,
-            &mut live,
-            session.apps().len(),
-            events,
-            count,
-            moment,
-        )?;
+        let frame = frame_next(alloc, &mut live, session, count, moment)?;
         count = frame.count;
-        let next = next_moment(alloc, &frame, events, session.end())?;
+        let next = next_moment(alloc, session, &frame)?;
         push_changed(&mut frames, frame)?;
         match next {
-            Some(later) if later > moment => moment = later,
-            _ => {
+            Some(later) => moment = later,
+            None => {
                 return Ok(Film {
                     frames,
                     is_whole: true,
@@ -257,6 +296,7 @@ fn film_with<F: AliasCode, K: Fn(ServiceKind, Text) -> F>(
     requires services { MakesServices (K.post make.now) F.may_call F.may_reply }
     ensures most { IfOk result (λ film. length film.frames.items ≤ 500) }
     ensures counted { IfOk result (λ film. All (IsCounted session.now.events) film.frames.items) }
+    ensures moments { IfOk result (IsFilm (λ (service : ServiceOf). answer_of service.kind service.config) session.now (begun_calls session.now (map services_in session.now.apps))) }
 {
     let live = begun(live_with(alloc, session, slice.max(1), make))?;
     film_of(alloc, live, session)
@@ -267,6 +307,7 @@ fn film_with<F: AliasCode, K: Fn(ServiceKind, Text) -> F>(
 pub fn filmed(alloc: Global, session: &Session, slice: u64) -> Result<Film, AllocError>
     ensures most { IfOk result (λ film. length film.frames.items ≤ 500) }
     ensures counted { IfOk result (λ film. All (IsCounted session.now.events) film.frames.items) }
+    ensures moments { IfOk result (IsFilm (λ (service : ServiceOf). answer_of service.kind service.config) session.now (begun_calls session.now (map services_in session.now.apps))) }
 {
     film_with(
         alloc,

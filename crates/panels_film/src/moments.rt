@@ -1,6 +1,6 @@
 //! Lines and their moments, which never go back.
 
-ghost use Rattle.std.specs.Prelude.{◌≡◌, take};
+ghost use Rattle.std.specs.Prelude.{◌≡◌, drop, take};
 ghost use Rattle.panels_film.specs.Moments.{comes_a_line, count_until, first_later};
 
 use tk_session::EventLine;
@@ -29,6 +29,17 @@ pub(crate) fn first_of(events: &[EventLine], count: usize) -> &[EventLine]
     match events.get(..count) {
         Some(first) => first,
         None => events,
+    }
+}
+
+/// The lines behind so many, up to another number of them.
+pub(crate) fn between(events: &[EventLine], before: usize, behind: usize) -> &[EventLine]
+    ensures { result.now ≡ drop before (take behind events.now) }
+{
+    let first = first_of(events, behind);
+    match first.get(before..) {
+        Some(rest) => rest,
+        None => &[],
     }
 }
 

@@ -1,12 +1,13 @@
 //! Who gets the presses and the keys of a person.
 
 ghost use Rattle.std.specs.Prelude.{◌≡◌, List, codes, map, option_map, IfOk};
+ghost use Rattle.std.specs.String.{string_bytes};
 ghost use Rattle.panels.specs.Panes.{has_point};
 ghost use Rattle.panels.specs.Shapes.{shown};
 ghost use Rattle.tk_route.specs.Screen.{is_within};
 ghost use Rattle.panels.specs.Course.{section_at};
 ghost use Rattle.tk_host.specs.Held.{Call, held_after};
-ghost use Rattle.panels_film.specs.Getters.{at_window, focus_in, getter_of, has, highest, slot_at, slot_of, told, under_pointer, with_keys};
+ghost use Rattle.panels_film.specs.Getters.{at_window, came_to, focus_in, getter_of, has, highest, slot_at, slot_of, told, under_pointer, with_keys, words};
 ghost use Rattle.panels_film.specs.Screens.{known};
 
 use crate::playing::section_of;
@@ -46,21 +47,34 @@ impl Getter {
     }
 
     /// In words, of these panels. An error where memory is refused.
-    pub fn words(&self, alloc: Global, panels: &[AppBlock]) -> Result<String, AllocError> {
+    pub fn words(&self, alloc: Global, panels: &[AppBlock]) -> Result<String, AllocError>
+        ensures { IfOk result (λ text. string_bytes text ≡ words panels.now (told self.now)) }
+    {
         match self {
             Getter::NoPointer => String::from_str(alloc, "the pointer has come nowhere"),
             Getter::NoPanel => String::from_str(alloc, "it came to no panel"),
             Getter::NoKeyboard => String::from_str(alloc, "no panel has the keyboard"),
-            Getter::Pointed { slot, path } => {
-                let (path, name) = (as_text(path.as_slice()), name_at(panels, *slot));
-                format!(in alloc; "it came to {path} of {name}")
-            }
+            Getter::Pointed { slot, path } => came_to(alloc, panels, *slot, path.as_slice()),
             Getter::Focused { slot, path } => {
-                let (path, name) = (as_text(path.as_slice()), name_at(panels, *slot));
-                format!(in alloc; "it came to {path} of {name}, which has the keyboard")
+                let mut words = came_to(alloc, panels, *slot, path.as_slice())?;
+                words.push_str(", which has the keyboard")?;
+                Ok(words)
             }
         }
     }
+}
+
+/// That something came to a window of the panel in a slot, in words.
+fn came_to(
+    alloc: Global,
+    panels: &[AppBlock],
+    slot: usize,
+    path: &[u8],
+) -> Result<String, AllocError>
+    ensures { IfOk result (λ text. string_bytes text ≡ came_to panels.now slot path.now) }
+{
+    let (path, name) = (as_text(path), name_at(panels, slot));
+    format!(in alloc; "it came to {path} of {name}")
 }
 
 /// Whether a span holds a place.

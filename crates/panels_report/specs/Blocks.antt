@@ -1,6 +1,8 @@
 -- Meaning. The blocks of a session that comes line by line.
-use Rattle.std.specs.Prelude.{◌≡◌, ℕ, ◌⊎◌, List, [], ◌∷◌, ◌++◌, codes}
+use Rattle.std.specs.Prelude.{◌≡◌, ℕ, List, [], ◌∷◌, ◌++◌, codes, Option, option_and_then}
 use Rattle.std.specs.String.{string_bytes}
+use Rattle.panels_report.specs.Numbers.{number_in}
+use Rattle.panels_text.specs.Texts.{behind}
 use Rattle.tk_route.specs.declared.fault.LineFault.{LineFault}
 use Rattle.tk_session.specs.Session.{HasFault, IsSession, Plan}
 use Rattle.panels_report.specs.declared.blocks.Blocks.{Blocks}
@@ -74,3 +76,7 @@ MayStay before after Silent = after.front ≡ before.front
 MayStay before after Accepted = Unit {0}
 MayStay before after (Refused words) = after.front ≡ before.front
 MayStay before after (Begun session) = (after ≡ before) × IsSession (begun before) session
+
+-- how many lines of a script a line counts
+abbrev pub count_in : List ℕ → Option ℕ
+count_in line = option_and_then number_in (behind (codes "script ") line)

@@ -1,5 +1,5 @@
 -- Meaning. What a panel shows beside other neighbours.
-use Rattle.std.specs.Prelude.{◌≡◌, ℕ, if◌then◌else◌, List, [], ◌∷◌, codes, Some, slice_get}
+use Rattle.std.specs.Prelude.{◌≡◌, ℕ, if◌then◌else◌, List, [], ◌∷◌, ◌++◌, map, codes, Some, slice_get}
 use Rattle.std.specs.Option.{unwrap_or}
 use Rattle.std.specs.Str.{bytes_eq}
 use Rattle.tk_session.specs.declared.session.AppBlock.{AppBlock}
@@ -12,6 +12,7 @@ use Rattle.panels.specs.declared.isolation.Neighbours.{Neighbours}
 use Rattle.panels.specs.declared.isolation.Neighbours.TheVariants.{Blank, Endless}
 use Rattle.panels.specs.declared.playing.Played.{Played}
 use Rattle.panels_film.specs.Scenes.{section_in}
+use Rattle.panels_text.specs.Differences.{differences}
 
 -- a name that a panel hasn't
 abbrev pub other_name : List ℕ → List ℕ
@@ -36,3 +37,16 @@ section_beside neighbours bench events slot =
 pub record IsUndisturbed (bench : Bench) (played : Played) (slot : ℕ) : Type 0 where
   pub alone_is : section_in played.sections.items slot ≡ section_beside Blank bench played.events.items slot
   pub beside_is : section_in played.sections.items slot ≡ section_beside Endless bench played.events.items slot
+
+-- what it shows otherwise somewhere, in words
+abbrev pub there_words : List ℕ → List ℕ → List ℕ
+there_words there difference = there ++ (codes " it shows something else: " ++ difference)
+
+abbrev pub different : List ℕ → List ℕ → List ℕ → List (List ℕ)
+different there own other = if bytes_eq own other then [] else map (there_words there) (differences own other)
+
+-- what a panel shows otherwise alone, and then beside neighbours that never end
+abbrev pub disturbances : Bench → Played → ℕ → List (List ℕ)
+disturbances bench played slot =
+    different (codes "alone") (section_in played.sections.items slot) (section_beside Blank bench played.events.items slot)
+    ++ different (codes "beside endless neighbours") (section_in played.sections.items slot) (section_beside Endless bench played.events.items slot)

@@ -8,3 +8,4 @@ pub mod Faults
 pub mod Idle
 pub mod Isolation
 pub mod Lint
+pub mod Numbers

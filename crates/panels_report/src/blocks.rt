@@ -1,11 +1,13 @@
 //! The blocks of a session that comes line by line.
 
-ghost use Rattle.std.specs.Prelude.{◌≡◌, ◌++◌, ◌∷◌, [], ℕ, codes, IfOk, IfSome, IfNone, OnOk};
+ghost use Rattle.std.specs.Prelude.{◌≡◌, ◌++◌, ◌∷◌, [], ℕ, codes, option_map, IfOk, IfSome, IfNone, OnOk};
 ghost use Rattle.std.specs.String.{string_bytes};
-ghost use Rattle.panels_report.specs.Blocks.{IsBeginning, IsTaken, MayStay, begun, closing, ended, none, opened, parts, with_block, with_front, with_head, without_block};
+ghost use Rattle.panels_report.specs.Blocks.{IsBeginning, IsTaken, MayStay, begun, closing, count_in, ended, none, opened, parts, with_block, with_front, with_head, without_block};
+ghost use Rattle.panels_text.specs.Texts.{behind};
 ghost use Rattle.tk_session.specs.Session.{HasFault, IsSession, Plan};
 ghost use Rattle.tk_route.specs.declared.fault.LineFault.{LineFault};
 
+use crate::numbers::number_in;
 use panels_text::explained;
 use std::alloc::{AllocError, Global};
 use tk_session::{Session, SessionFault, read_session};
@@ -61,9 +63,18 @@ fn closed(alloc: Global, blocks: &str) -> Result<String, AllocError>
     format!(in alloc; "{blocks}events\n0 end\n")
 }
 
+/// What stands behind the first word of the line in front of a script.
+fn behind_script(line: &str) -> Option<&str>
+    ensures { option_map (λ rest. rest.now) result ≡ behind (codes "script ") line.now }
+{
+    line.strip_prefix("script ")
+}
+
 /// The number of lines that the line in front of a script counts.
-fn count_of(line: &str) -> Option<u64> {
-    line.strip_prefix("script ")?.parse::<u64>().ok()
+fn count_of(line: &str) -> Option<u64>
+    ensures { result ≡ count_in line.now }
+{
+    number_in(behind_script(line)?)
 }
 
 impl Blocks {

@@ -1,7 +1,8 @@
 //! Errors of scripts, and steps that ran out.
 
-ghost use Rattle.std.specs.Prelude.{◌≡◌, option_map};
-ghost use Rattle.panels_report.specs.Ends.{error_in, has_run_out, unwanted_error};
+ghost use Rattle.std.specs.Prelude.{◌≡◌, option_map, IfOk};
+ghost use Rattle.std.specs.String.{string_bytes};
+ghost use Rattle.panels_report.specs.Ends.{error_in, error_words, has_run_out, refilled_words, spent_words, steps_words, unwanted_error};
 
 use panels_bench::Side;
 use panels_film::is_spent;
@@ -33,18 +34,36 @@ pub(crate) fn has_run_out(side: &Side, section: &str) -> bool
 }
 
 /// That an error came, in words.
-pub(crate) fn error_words(alloc: Global, error: &str) -> Result<String, AllocError> {
+pub(crate) fn error_words(alloc: Global, error: &str) -> Result<String, AllocError>
+    ensures { IfOk result (λ text. string_bytes text ≡ error_words error.now) }
+{
     format!(in alloc; "a script ended with an error: {error} (errors = true lets it)")
 }
 
-/// That a panel with this budget ran out, in words.
-pub(crate) fn spent_words(alloc: Global, budget: Budget) -> Result<String, AllocError> {
+/// Steps, and those that come with each event, in words.
+fn refilled_words(alloc: Global, total: u64, refill: u64) -> Result<String, AllocError>
+    ensures { IfOk result (λ text. string_bytes text ≡ refilled_words total refill) }
+{
+    format!(in alloc; "{total}, and {refill} more with each event")
+}
+
+/// The steps that a panel with this budget had, in words.
+fn steps_words(alloc: Global, budget: Budget) -> Result<String, AllocError>
+    ensures { IfOk result (λ text. string_bytes text ≡ steps_words budget) }
+{
     let total = budget.total;
-    let had = if budget.refill == 0 {
-        format!(in alloc; "{total}")?
+    if budget.refill == 0 {
+        format!(in alloc; "{total}")
     } else {
-        format!(in alloc; "{total}, and {} more with each event", budget.refill)?
-    };
+        refilled_words(alloc, total, budget.refill)
+    }
+}
+
+/// That a panel with this budget ran out, in words.
+pub(crate) fn spent_words(alloc: Global, budget: Budget) -> Result<String, AllocError>
+    ensures { IfOk result (λ text. string_bytes text ≡ spent_words budget) }
+{
+    let had = steps_words(alloc, budget)?;
     format!(in alloc;
         "it ran out of steps, of which it had {}: a script never ended, or took more than that (exhausted = true lets it)",
         had.as_str()

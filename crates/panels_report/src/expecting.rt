@@ -1,8 +1,9 @@
 //! Whether a panel ends with the section that it has to.
 
-ghost use Rattle.std.specs.Prelude.{◌≡◌, [], true, option_map, IfOk};
+ghost use Rattle.std.specs.Prelude.{◌≡◌, [], true, map, option_map, IfOk};
+ghost use Rattle.std.specs.String.{string_bytes};
 ghost use Rattle.panels.specs.Verdict.{compared};
-ghost use Rattle.panels_report.specs.Expected.{is_as_expected};
+ghost use Rattle.panels_report.specs.Expected.{differing, is_as_expected, unexpected};
 
 use panels::{compared, is_same};
 use panels_bench::Side;
@@ -20,6 +21,30 @@ pub fn is_as_expected(side: &Side, wanted: Option<&[u8]>, got: &[u8]) -> bool
     }
 }
 
+/// What differs from an expected file; that it isn't there, where it isn't.
+fn differing(
+    alloc: Global,
+    side: &Side,
+    wanted: Option<&[u8]>,
+    got: &[u8],
+) -> Result<Vec<String>, AllocError>
+    ensures { IfOk result (λ problems. map string_bytes problems.items ≡ differing (option_map (λ text. text.now) wanted.entry) (option_map string_bytes side.now.expect) got.now) }
+{
+    if let Some(wanted) = wanted {
+        return differences(alloc, wanted, got);
+    }
+    let Some(name) = &side.expect else {
+        return Ok(Vec::new(alloc));
+    };
+    let mut problems = Vec::new(alloc);
+    let words = format!(in alloc;
+        "there is no file {}: panels accept writes it",
+        name.as_str()
+    )?;
+    problems.push(words)?;
+    Ok(problems)
+}
+
 /// What differs from a panel's expected file, of which this is the text, where it is there; nothing where the section is as it has to be.
 pub(crate) fn unexpected(
     alloc: Global,
@@ -27,22 +52,12 @@ pub(crate) fn unexpected(
     wanted: Option<&[u8]>,
     section: &[u8],
 ) -> Result<Vec<String>, AllocError>
-    ensures { is_as_expected side.now (option_map (λ text. text.now) wanted.entry) (compared side.now.counts_steps section.now) ≡ true → IfOk result (λ problems. problems.items ≡ []) }
+    ensures same { is_as_expected side.now (option_map (λ text. text.now) wanted.entry) (compared side.now.counts_steps section.now) ≡ true → IfOk result (λ problems. problems.items ≡ []) }
+    ensures told { IfOk result (λ problems. map string_bytes problems.items ≡ unexpected side.now (option_map (λ text. text.now) wanted.entry) section.now) }
 {
     let got = compared(alloc, section, side.counts_steps)?;
-    let mut problems = Vec::new(alloc);
     if is_as_expected(side, wanted, got.as_slice()) {
-        return Ok(problems);
+        return Ok(Vec::new(alloc));
     }
-    match (&side.expect, wanted) {
-        (Some(name), None) => {
-            problems.push(format!(in alloc;
-                "there is no file {}: panels accept writes it",
-                name.as_str()
-            )?)?;
-            Ok(problems)
-        }
-        (_, Some(wanted)) => differences(alloc, wanted, got.as_slice()),
-        (None, None) => Ok(problems),
-    }
+    differing(alloc, side, wanted, got.as_slice())
 }

@@ -1,8 +1,9 @@
 //! Whether a panel shows the same beside other neighbours.
 
-ghost use Rattle.std.specs.Prelude.{◌≡◌, [], Some, IfOk, OnOk};
+ghost use Rattle.std.specs.Prelude.{◌≡◌, ◌++◌, ◌∷◌, [], Some, map, IfOk, OnOk};
+ghost use Rattle.std.specs.String.{string_bytes};
 ghost use Rattle.panels.specs.Beside.{beside};
-ghost use Rattle.panels_report.specs.Isolation.{IsUndisturbed, accompanied, far_neighbour, other_name, section_beside};
+ghost use Rattle.panels_report.specs.Isolation.{IsUndisturbed, accompanied, different, disturbances, far_neighbour, other_name, section_beside, there_words};
 
 use panels::{Bench, BenchFault, Neighbours, Played, beside, is_same, sections_with};
 use panels_film::{copies, section_in};
@@ -95,6 +96,34 @@ fn section_beside(
     Ok(Vec::from_slice(alloc, section_in(sections.as_slice(), slot))?)
 }
 
+/// Adds a difference there.
+fn push_one(
+    alloc: Global,
+    problems: &mut Vec<String>,
+    there: &str,
+    difference: &str,
+) -> Result<(), AllocError>
+    ensures { OnOk result (map string_bytes problems.new.items ≡ map string_bytes problems.old.items ++ there_words there.now difference.now ∷ []) }
+{
+    let words = format!(in alloc; "{there} it shows something else: {difference}")?;
+    Ok(problems.push(words)?)
+}
+
+/// Adds what a panel shows otherwise there.
+fn push_there(
+    alloc: Global,
+    problems: &mut Vec<String>,
+    there: &str,
+    found: &[String],
+) -> Result<(), AllocError>
+    ensures { OnOk result (map string_bytes problems.new.items ≡ map string_bytes problems.old.items ++ map (there_words there.now) (map string_bytes found.now)) }
+{
+    for difference in found {
+        push_one(alloc, problems, there, difference.as_str())?;
+    }
+    Ok(())
+}
+
 /// Adds what a panel shows otherwise there, where it isn't the same bytes.
 fn push_different(
     alloc: Global,
@@ -104,15 +133,13 @@ fn push_different(
     other: &[u8],
 ) -> Result<(), AllocError>
     ensures same { own.now ≡ other.now → OnOk result (problems.new.items ≡ problems.old.items) }
+    ensures different { OnOk result (map string_bytes problems.new.items ≡ map string_bytes problems.old.items ++ different there.now own.now other.now) }
 {
     if is_same(own, other) {
         return Ok(());
     }
-    for text in differences(alloc, own, other)? {
-        let text = format!(in alloc; "{there} it shows something else: {}", text.as_str())?;
-        problems.push(text)?;
-    }
-    Ok(())
+    let found = differences(alloc, own, other)?;
+    push_there(alloc, problems, there, found.as_slice())
 }
 
 /// What the panel in a slot shows otherwise than it showed, where it is played alone and beside neighbours that never end, with the same lines. Nothing where
@@ -125,6 +152,7 @@ pub fn disturbances(
     slot: usize,
 ) -> Result<Vec<String>, BenchFault>
     ensures undisturbed { IsUndisturbed bench.now played.now slot → IfOk result (λ problems. problems.items ≡ []) }
+    ensures told { IfOk result (λ problems. map string_bytes problems.items ≡ disturbances bench.now played.now slot) }
 {
     let mut problems = Vec::new(alloc);
     let events = played.events.as_slice();

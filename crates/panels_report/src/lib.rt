@@ -11,6 +11,7 @@ mod failing;
 mod idle;
 mod isolating;
 mod linting;
+mod numbers;
 mod playing;
 mod trials;
 

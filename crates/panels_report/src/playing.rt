@@ -6,7 +6,7 @@ ghost use Rattle.tk_alias.specs.declared.service.Service.{Service as ServiceOf};
 ghost use Rattle.tkhost.specs.Play.{program_sections, services_in};
 ghost use Rattle.panels.specs.Played.{plan_of};
 ghost use Rattle.panels.specs.Refusals.{IsRefused};
-ghost use Rattle.panels_report.specs.Faults.{IsMemory};
+ghost use Rattle.panels_report.specs.Faults.{IsMemory, IsTold, entry_line, panel_line, words_of};
 
 use panels::{Bench, BenchFault, Played, play};
 use panels_bench::{Read, slot_at};
@@ -16,7 +16,9 @@ use tcl_text::Text;
 use tk_session::{LineFault, ServiceKind, WritingFault};
 
 /// Why panels are no session, in words.
-fn words_of(fault: LineFault) -> &'static str {
+fn words_of(fault: LineFault) -> &'static str
+    ensures { result.now ≡ words_of fault }
+{
     match fault {
         LineFault::Overlap => "its rectangle shares a pixel with that of a panel above",
         LineFault::NameTaken => "its name, or that of one of its aliases, is taken",
@@ -33,7 +35,9 @@ fn words_of(fault: LineFault) -> &'static str {
 }
 
 /// The line of a bench that says the panel with a line of its session; 0 where none does.
-fn panel_line(read: &Read, line: usize) -> usize {
+fn panel_line(read: &Read, line: usize) -> usize
+    ensures { result ≡ panel_line read.now line }
+{
     let slot = slot_at(read.bench.panels.as_slice(), line);
     match read.sides.as_slice().get(slot) {
         Some(side) => side.line,
@@ -41,9 +45,20 @@ fn panel_line(read: &Read, line: usize) -> usize {
     }
 }
 
+/// The line of a bench that says an entry; 0 where none does.
+fn entry_line(read: &Read, entry: usize) -> usize
+    ensures { result ≡ entry_line read.now entry }
+{
+    match read.lines.as_slice().get(entry) {
+        Some(line) => *line,
+        None => 0,
+    }
+}
+
 /// What is wrong with a bench that isn't played, with its file and its line.
 pub fn not_played(alloc: Global, file: &str, read: &Read, why: BenchFault) -> Failure
     ensures memory { IsMemory why → result ≡ Failure.NoMemory }
+    ensures told { IsTold file.now read.now why result }
 {
     match why {
         BenchFault::NoMemory | BenchFault::NoSession(WritingFault::NoMemory) => Failure::NoMemory,
@@ -55,8 +70,7 @@ pub fn not_played(alloc: Global, file: &str, read: &Read, why: BenchFault) -> Fa
             fault(alloc, file, panel_line(read, line), words_of(why))
         }
         BenchFault::Refused { entry, fault: why } => {
-            let line = read.lines.as_slice().get(entry).copied().unwrap_or(0);
-            fault(alloc, file, line, words_of(why))
+            fault(alloc, file, entry_line(read, entry), words_of(why))
         }
     }
 }

@@ -1,4 +1,4 @@
--- The items of `switch` and the words of `foreach`, as they are read and as they are cut, and the turns of `foreach`.
+-- The items of `switch` and the words of `foreach`, as they are read and as they are cut, and the iterations of `foreach`.
 use Rattle.std.proofs.Common.{◌≡◌, ◌≢◌, ◌↔◌, ℕ, zero, suc, ◌+◌, ◌-◌, ◌*◌, ◌%◌, ◌==◌, ◌<◌, ◌≤◌, ◌⊎◌, nat_lt, true, List, [], ◌∷◌, ◌++◌, length, drop, option_map, Option, Some, None, Result, Ok, Err, refl, ap, sym, subst, ◌∙◌, inl, inr, arith}
 use native.Mathlib.Nat.{mul-zero, mul-suc, mul-add-mod_self_left}
 use Rattle.std.proofs.lemmas.Bool.{lt-ltb, le-ltb, cases_lt}
@@ -9,7 +9,7 @@ use Rattle.tcl_commands.specs.declared.branches.Branch.{Branch}
 use Rattle.tcl_commands.specs.declared.groups.Group.{Group}
 use Rattle.tcl_commands.specs.Branches.{branch_of, arms_from, arms_of}
 use Rattle.tcl_commands.specs.Groups.{group_named, group_of, groups_from, groups_of, behind_group, has_body, has_more, next_place}
-use Rattle.tcl_commands.specs.Shapes.{arm_words, IsGroup, IsNoGroup, AreGroups, AreGroupsBeforeFault, AreFaulty, after_turns}
+use Rattle.tcl_commands.specs.Shapes.{arm_words, IsGroup, IsNoGroup, AreGroups, AreGroupsBeforeFault, AreFaulty, after_iterations}
 
 pairs_read : (arms : List Branch) → arms_from None (arm_words arms) ≡ Some arms
 pairs_read [] = refl
@@ -124,13 +124,13 @@ module _ (lists : (text : List ℕ) (items : List (List ℕ)) → (list_of text 
   unfolding groups_of
   faults_cut words body text has same = subst (AllCut words) same (groups_from_cut words body has)
 
-same_names : (turns : ℕ) (group : Group) → (after_turns turns group).names ≡ group.names
+same_names : (iterations : ℕ) (group : Group) → (after_iterations iterations group).names ≡ group.names
 same_names zero group = refl
-same_names (suc turns) group = same_names turns group
+same_names (suc iterations) group = same_names iterations group
 
-same_items : (turns : ℕ) (group : Group) → (after_turns turns group).items ≡ group.items
+same_items : (iterations : ℕ) (group : Group) → (after_iterations iterations group).items ≡ group.items
 same_items zero group = refl
-same_items (suc turns) group = same_items turns group
+same_items (suc iterations) group = same_items iterations group
 
 -- a place among so many items when this many were asked for: past those, or at the end
 abbrev IsReached : ℕ → ℕ → ℕ → Type 0
@@ -145,17 +145,17 @@ next_reached names items asked place is = by (cases_lt names (items - place)) is
     by (inr last) (inl at) = inr (omega (arith, last, at.0, at.1), rw (le-ltb names (items - place) last) refl)
     by (inr last) (inr at) = inr (omega (arith, at.0), rw (le-ltb names (items - place) last) refl)
 
-reached : (turns : ℕ) (group : Group) → group.next ≡ 0 → IsReached (after_turns turns group).next (length group.items) (length group.names * turns)
+reached : (iterations : ℕ) (group : Group) → group.next ≡ 0 → IsReached (after_iterations iterations group).next (length group.items) (length group.names * iterations)
 reached zero group first = by (cases_lt 0 (length group.items))
   where
     by : (0 < length group.items) ⊎ (length group.items ≤ 0) → IsReached group.next (length group.items) (length group.names * 0)
     by (inl some) = inl (rw (mul-zero (length group.names)) (some, first))
     by (inr none) = inr (rw (mul-zero (length group.names)) (none, omega (arith, first, none)))
-reached (suc turns) group first =
-    rw (mul-suc (length group.names) turns)
-    (subst (λ (names : List (List ℕ)). IsReached (next_place (length names) (length (after_turns turns group).items) (after_turns turns group).next) (length group.items) (length group.names * turns + length group.names)) (sym (same_names turns group))
-    (subst (λ (items : List (List ℕ)). IsReached (next_place (length group.names) (length items) (after_turns turns group).next) (length group.items) (length group.names * turns + length group.names)) (sym (same_items turns group))
-    (next_reached (length group.names) (length group.items) (length group.names * turns) (after_turns turns group).next (reached turns group first))))
+reached (suc iterations) group first =
+    rw (mul-suc (length group.names) iterations)
+    (subst (λ (names : List (List ℕ)). IsReached (next_place (length names) (length (after_iterations iterations group).items) (after_iterations iterations group).next) (length group.items) (length group.names * iterations + length group.names)) (sym (same_names iterations group))
+    (subst (λ (items : List (List ℕ)). IsReached (next_place (length group.names) (length items) (after_iterations iterations group).next) (length group.items) (length group.names * iterations + length group.names)) (sym (same_items iterations group))
+    (next_reached (length group.names) (length group.items) (length group.names * iterations) (after_iterations iterations group).next (reached iterations group first))))
 
 drop_all : {X : Type 0} (xs : List X) (n : ℕ) → length xs ≤ n → drop n xs ≡ []
 drop_all [] zero h = refl
@@ -163,16 +163,16 @@ drop_all [] (suc n) h = refl
 drop_all (x ∷ xs) zero h = absurd (omega (arith, h))
 drop_all (x ∷ xs) (suc n) h = drop_all xs n (omega (arith, h))
 
-pub more_turns : (turns : ℕ) (group : Group) → group.next ≡ 0 → has_more (after_turns turns group) ≡ nat_lt (length group.names * turns) (length group.items)
-more_turns turns group first = ap (λ i. nat_lt (after_turns turns group).next (length i)) (same_items turns group) ∙ by (reached turns group first)
+pub more_iterations : (iterations : ℕ) (group : Group) → group.next ≡ 0 → has_more (after_iterations iterations group) ≡ nat_lt (length group.names * iterations) (length group.items)
+more_iterations iterations group first = ap (λ i. nat_lt (after_iterations iterations group).next (length i)) (same_items iterations group) ∙ by (reached iterations group first)
   where
-    by : IsReached (after_turns turns group).next (length group.items) (length group.names * turns) → nat_lt (after_turns turns group).next (length group.items) ≡ nat_lt (length group.names * turns) (length group.items)
+    by : IsReached (after_iterations iterations group).next (length group.items) (length group.names * iterations) → nat_lt (after_iterations iterations group).next (length group.items) ≡ nat_lt (length group.names * iterations) (length group.items)
     by (inl at) = ap (λ n. nat_lt n (length group.items)) at.1
-    by (inr at) = le-ltb (after_turns turns group).next (length group.items) (omega (arith, at.1)) ∙ sym (le-ltb (length group.names * turns) (length group.items) at.0)
+    by (inr at) = le-ltb (after_iterations iterations group).next (length group.items) (omega (arith, at.1)) ∙ sym (le-ltb (length group.names * iterations) (length group.items) at.0)
 
-pub items_behind : (turns : ℕ) (group : Group) → group.next ≡ 0 → drop (after_turns turns group).next group.items ≡ drop (length group.names * turns) group.items
-items_behind turns group first = by (reached turns group first)
+pub items_behind : (iterations : ℕ) (group : Group) → group.next ≡ 0 → drop (after_iterations iterations group).next group.items ≡ drop (length group.names * iterations) group.items
+items_behind iterations group first = by (reached iterations group first)
   where
-    by : IsReached (after_turns turns group).next (length group.items) (length group.names * turns) → drop (after_turns turns group).next group.items ≡ drop (length group.names * turns) group.items
+    by : IsReached (after_iterations iterations group).next (length group.items) (length group.names * iterations) → drop (after_iterations iterations group).next group.items ≡ drop (length group.names * iterations) group.items
     by (inl at) = ap (λ n. drop n group.items) at.1
-    by (inr at) = drop_all group.items (after_turns turns group).next (omega (arith, at.1)) ∙ sym (drop_all group.items (length group.names * turns) at.0)
+    by (inr at) = drop_all group.items (after_iterations iterations group).next (omega (arith, at.1)) ∙ sym (drop_all group.items (length group.names * iterations) at.0)

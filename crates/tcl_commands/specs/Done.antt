@@ -13,18 +13,6 @@ pub record Done : Type 0 where
 abbrev pub keeps : Store → Answer → Done
 keeps store answer = record { store = store; answer = answer }
 
--- a step that left this store did what the definition says, unless memory was refused
-abbrev pub Does : Result (List ℕ) Refusal → Store → Done → Type 0
-Does (Ok text) store wanted = wanted ≡ record { store = store; answer = Ok text }
-Does (Err (Error message)) store wanted = wanted ≡ record { store = store; answer = Err message }
-Does (Err NoMemory) store wanted = ⊤
-
--- what holds where memory was refused
-abbrev pub IfNoMemory : {T : Type 0} → Result T Refusal → Type 0 → Type 0
-IfNoMemory (Ok value) fact = ⊤
-IfNoMemory (Err (Error message)) fact = ⊤
-IfNoMemory (Err NoMemory) fact = fact
-
 -- ── commands on several variables ──
 
 -- what follows a step, unless it was refused
@@ -46,6 +34,20 @@ abbrev pub pairs : List (List ℕ) → List (List ℕ × List ℕ)
 pairs [] = []
 pairs (x ∷ []) = []
 pairs (x ∷ y ∷ others) = (x, y) ∷ pairs others
+
+-- ── steps ──
+
+-- a step that left this store did what the definition says, unless memory was refused
+abbrev pub Does : Result (List ℕ) Refusal → Store → Done → Type 0
+Does (Ok text) store wanted = wanted ≡ record { store = store; answer = Ok text }
+Does (Err (Error message)) store wanted = wanted ≡ record { store = store; answer = Err message }
+Does (Err NoMemory) store wanted = ⊤
+
+-- what holds where memory was refused
+abbrev pub IfNoMemory : {T : Type 0} → Result T Refusal → Type 0 → Type 0
+IfNoMemory (Ok value) fact = ⊤
+IfNoMemory (Err (Error message)) fact = ⊤
+IfNoMemory (Err NoMemory) fact = fact
 
 -- a step was done as the definition says; where it was refused, or memory was, the variables stay
 abbrev pub Steps : {U : Type 0} → Result U Refusal → Store → Store → Result Store (List ℕ) → Type 0

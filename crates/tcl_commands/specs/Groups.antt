@@ -39,11 +39,11 @@ groups_of words = groups_from None words
 abbrev pub has_body : List (List ℕ) → Bool
 has_body words = length words % 2 == 1
 
--- the place behind the items of a turn
+-- the place behind the items of an iteration
 abbrev pub next_place : ℕ → ℕ → ℕ → ℕ
 next_place names items next = if nat_lt names (items - next) then next + names else items
 
--- a turn more was taken of the items
+-- one iteration more was taken of the items
 abbrev pub advanced : Group → Group
 advanced group = record group { next = next_place (length group.names) (length group.items) group.next }
 

@@ -71,7 +71,7 @@ AreGroupsBeforeFault words (group ∷ groups) text =
 abbrev pub AreFaulty : List (List ℕ) → List ℕ → Type 0
 AreFaulty words text = (groups : List Group) × AreGroupsBeforeFault words groups text
 
--- a group after so many turns
-abbrev pub after_turns : ℕ → Group → Group
-after_turns zero group = group
-after_turns (suc turns) group = advanced (after_turns turns group)
+-- a group after so many iterations
+abbrev pub after_iterations : ℕ → Group → Group
+after_iterations zero group = group
+after_iterations (suc iterations) group = advanced (after_iterations iterations group)

@@ -11,11 +11,11 @@ use tcl_text::{ListItems, SplitFault, Text, TextList};
 /// A list of names of `foreach`, and its list of items (foreach(n)).
 #[derive(Drop)]
 pub struct Group {
-    /// The variables that take the items, one each in a turn.
+    /// The variables that take the items, one each in an iteration.
     pub names: TextList,
-    /// The items of all turns, shared with the text where it keeps them.
+    /// The items of all iterations, shared with the text where it keeps them.
     pub items: ListItems,
-    /// How many of the items were taken in the turns before.
+    /// How many of the items were taken in the iterations before.
     pub next: usize,
 }
 
@@ -23,7 +23,7 @@ pub struct Group {
 pub type Groups = Listing<Group>;
 
 impl Listing<Group> {
-    /// Whether a group has items left: `foreach` takes another turn then (foreach(n)).
+    /// Whether a group has items left: `foreach` takes another iteration then (foreach(n)).
     pub fn has_more(&self) -> bool
         ensures { result ≡ list_any has_more self.now }
     {
@@ -32,19 +32,19 @@ impl Listing<Group> {
             .any(|group| group.next < group.items.len())
     }
 
-    /// The groups behind one more turn: each has given an item to each of its names, or all that were left.
+    /// The groups behind one more iteration: each has given an item to each of its names, or all that were left.
     pub fn advanced(self, alloc: Global) -> Result<Groups, AllocError>
         ensures { IfOk result (λ groups. groups ≡ map advanced self) }
     {
         let mut groups = Listing::new(alloc);
-        'turn: for group in self.into_vec() {
-            groups.push(past_turn(group))?;
+        'iteration: for group in self.into_vec() {
+            groups.push(past_iteration(group))?;
         }
         Ok(groups)
     }
 }
 
-fn past_turn(group: Group) -> Group
+fn past_iteration(group: Group) -> Group
     ensures { result ≡ advanced group }
 {
     let Group { names, items, next } = group;

@@ -3,7 +3,7 @@
 ghost use Rattle.std.specs.Prelude.{◌≡◌, ℕ, ◌*◌, true, List, [], ◌∷◌, ◌++◌, length, drop, nat_lt, Some, Ok, Err};
 ghost use Rattle.tcl_commands.specs.Branches.{choices_of, arms_of};
 ghost use Rattle.tcl_commands.specs.Groups.{groups_of, has_body, has_more};
-ghost use Rattle.tcl_commands.specs.Shapes.{IsIf, arm_words, AreGroups, AreFaulty, after_turns};
+ghost use Rattle.tcl_commands.specs.Shapes.{IsIf, arm_words, AreGroups, AreFaulty, after_iterations};
 ghost use Rattle.tcl_commands.specs.declared.branches.Branch.{Branch};
 ghost use Rattle.tcl_commands.specs.declared.branches.Choices.{Choices};
 ghost use Rattle.tcl_commands.specs.declared.groups.Group.{Group};
@@ -35,10 +35,10 @@ pub fn foreach_words_are_cut()
     list_faults_are_told();
 }
 
-/// After T turns a group of N names has its items from number N times T on, counted from 0, and asks for another turn where some are left.
-pub fn turns_take_items()
-    ensures more { (turns : ℕ) (group : Group) → group.next ≡ 0
-        → has_more (after_turns turns group) ≡ nat_lt (length group.names * turns) (length group.items) }
-    ensures items { (turns : ℕ) (group : Group) → group.next ≡ 0
-        → drop (after_turns turns group).next group.items ≡ drop (length group.names * turns) group.items }
+/// After T iterations a group of N names has its items from number N times T on, counted from 0, and asks for another iteration where some are left.
+pub fn iterations_take_items()
+    ensures more { (iterations : ℕ) (group : Group) → group.next ≡ 0
+        → has_more (after_iterations iterations group) ≡ nat_lt (length group.names * iterations) (length group.items) }
+    ensures items { (iterations : ℕ) (group : Group) → group.next ≡ 0
+        → drop (after_iterations iterations group).next group.items ≡ drop (length group.names * iterations) group.items }
 {}

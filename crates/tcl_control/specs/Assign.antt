@@ -33,7 +33,7 @@ behind_assigned rest assigned (Some text) = assigned
 abbrev pub on_assigned : (Store → Assigned) → Assigned → Assigned
 on_assigned rest assigned = behind_assigned rest assigned assigned.refused
 
--- the names of groups are given the items of a turn
+-- the names of groups are given the items of an iteration
 abbrev pub groups_assigned : ℕ → List Group → Store → Assigned
 groups_assigned level [] store = done store
 groups_assigned level (group ∷ groups) store = on_assigned (groups_assigned level groups) (assigned level group.names (drop group.next group.items) store)

@@ -15,9 +15,9 @@ use Rattle.tcl_control.specs.declared.code.Code.TheVariants.{Normal, Error, Retu
 use Rattle.tcl_control.specs.declared.code.ReturnCode.{ReturnCode}
 use Rattle.tcl_control.specs.declared.code.ReturnCode.TheVariants.{Normal as AsNormal, Error as AsError, Return as AsReturn, Break as AsBreak, Continue as AsContinue}
 use Rattle.tcl_control.specs.declared.plan.Plan.{Plan}
-use Rattle.tcl_control.specs.declared.plan.Plan.TheVariants.{Ends, Runs, Catches, RunsAt, Evaluates, Turns, Starts}
-use Rattle.tcl_control.specs.declared.turns.Test.TheVariants.{Holds, Items}
-use Rattle.tcl_control.specs.declared.turns.Turning.{Turning}
+use Rattle.tcl_control.specs.declared.plan.Plan.TheVariants.{Ends, Runs, Catches, RunsAt, Evaluates, Loops, Starts}
+use Rattle.tcl_control.specs.declared.loops.Test.TheVariants.{Holds, Items}
+use Rattle.tcl_control.specs.declared.loops.Loop.{Loop}
 use Rattle.tcl_commands.specs.Groups.{groups_of, has_body}
 use Rattle.tcl_commands.specs.declared.groups.Group.{Group}
 use Rattle.tcl_control.specs.declared.usages.Usage.{Usage}
@@ -119,7 +119,7 @@ expr_plan (word ∷ words) = on_joined Evaluates (concat_words (word ∷ words))
 
 -- while cond body
 abbrev pub while_plan : List (List ℕ) → Plan
-while_plan (condition ∷ body ∷ []) = Turns (record { test = Holds condition; body = body; next = None })
+while_plan (condition ∷ body ∷ []) = Loops (record { test = Holds condition; body = body; next = None })
 while_plan _ = misused usage.While
 
 -- for start cond next body
@@ -129,7 +129,7 @@ for_plan _ = misused usage.For
 
 -- the names and items of `foreach`, or an error
 abbrev pub each_plan : List ℕ → Result (List Group) (List ℕ) → Plan
-each_plan body (Ok groups) = Turns (record { test = Items groups; body = body; next = None })
+each_plan body (Ok groups) = Loops (record { test = Items groups; body = body; next = None })
 each_plan body (Err text) = failed_plan text
 
 abbrev pub last_of : List (List ℕ) → List ℕ

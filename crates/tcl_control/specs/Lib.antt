@@ -11,6 +11,6 @@ pub mod Control
 pub mod Expressions
 pub mod ExpressionForms
 pub mod Procedures
-pub mod Turns
+pub mod Loops
 pub mod Usages
 pub mod Variables

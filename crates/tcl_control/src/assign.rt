@@ -69,7 +69,7 @@ fn assign_names(
     Ok(None)
 }
 
-/// Gives the names of groups the items of a turn.
+/// Gives the names of groups the items of an iteration.
 pub fn assign_groups(
     alloc: Global,
     scopes: &mut Scopes,

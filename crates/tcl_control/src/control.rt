@@ -13,9 +13,9 @@ use crate::code::{Code, ReturnCode};
 use crate::context::Context;
 use crate::define::{make_procedure, rename};
 use crate::expression::Expression;
+use crate::loops::{Loop, Looping, Test};
 use crate::plan::{Plan, fails};
 use crate::procedure::call_procedure;
-use crate::turns::{Looping, Test, Turning};
 use crate::usages::{Usage, misused};
 use crate::variables::{upvar_end, variable_end};
 use std::alloc::{AllocError, Global};
@@ -94,7 +94,7 @@ fn conditional(
         Some(next) => Some(Source::read_by(table, next)?),
         None => None,
     };
-    Looping::new(alloc, Turning { test, body, next })
+    Looping::new(alloc, Loop { test, body, next })
 }
 
 /// `while` (while(n)).
@@ -104,8 +104,8 @@ fn while_plan(alloc: Global, table: &mut CommandTable, words: &[Text]) -> Result
 {
     match words {
         [condition, body] => {
-            let turning = conditional(alloc, table, condition, body, None)?;
-            Ok(Plan::Turns(turning))
+            let looping = conditional(alloc, table, condition, body, None)?;
+            Ok(Plan::Loops(looping))
         }
         _ => misused(alloc, Usage::While),
     }
@@ -118,8 +118,8 @@ fn for_plan(alloc: Global, table: &mut CommandTable, words: &[Text]) -> Result<P
 {
     match words {
         [start, condition, next, body] => {
-            let turning = conditional(alloc, table, condition, body, Some(next))?;
-            Ok(Plan::Starts(Source::of_text(start.copy()?), turning))
+            let looping = conditional(alloc, table, condition, body, Some(next))?;
+            Ok(Plan::Starts(Source::of_text(start.copy()?), looping))
         }
         _ => misused(alloc, Usage::For),
     }
@@ -136,12 +136,12 @@ fn foreach_plan(alloc: Global, table: &mut CommandTable, words: &[Text]) -> Resu
     let body = Source::read_by(table, &words[words.len() - 1])?;
     match foreach_groups(alloc, words)? {
         Ok(groups) => {
-            let turning = Turning {
+            let looping = Loop {
                 test: Test::Items(groups),
                 body,
                 next: None,
             };
-            Ok(Plan::Turns(Looping::new(alloc, turning)?))
+            Ok(Plan::Loops(Looping::new(alloc, looping)?))
         }
         Err(text) => Ok(fails(text)),
     }

@@ -8,9 +8,9 @@ mod context;
 mod control;
 mod define;
 mod expression;
+mod loops;
 mod plan;
 mod procedure;
-mod turns;
 mod usages;
 mod variables;
 
@@ -18,5 +18,5 @@ pub use code::{Code, ReturnCode, STRAY_BREAK, STRAY_CONTINUE};
 pub use context::Context;
 pub use control::{Call, End, call_command, caught};
 pub use expression::{Expression, truth};
+pub use loops::{Loop, Looping, Test, Verdict, items_tested};
 pub use plan::Plan;
-pub use turns::{Looping, Test, Turning, Verdict, items_tested};

@@ -3,7 +3,7 @@ ghost use Rattle.tcl_control.specs.Commands as spec;
 
 use crate::code::Code;
 use crate::expression::Expression;
-use crate::turns::Looping;
+use crate::loops::Looping;
 use tcl_commands::Choices;
 use tcl_table::Source;
 use tcl_text::Text;
@@ -26,7 +26,7 @@ pub enum Plan {
     /// The first body whose condition holds runs (if(n)).
     Chooses(Choices),
     /// A loop is to be tested (while(n), foreach(n)).
-    Turns(Looping),
+    Loops(Looping),
     /// A script runs, and then a loop is tested (for(n)).
     Starts(Source, Looping),
 }

@@ -1,4 +1,4 @@
--- Steps never rise, so the number of turns that bounds a loop or a task doesn't matter.
+-- Steps never rise, so the number of iterations that bounds a loop or a task doesn't matter.
 use Rattle.std.proofs.Common.{◌≡◌, ℕ, zero, suc, ◌≤◌, ◌<◌, Bool, true, false, cond, List, [], ◌∷◌, ◌++◌, length, nat_le, Option, Some, None, Result, Ok, Err, refl, sym, arith}
 use Rattle.tcl_words.specs.declared.script.Command.{Command}
 use Rattle.tcl_words.specs.declared.script.Word.{Word}
@@ -13,26 +13,27 @@ use Rattle.tcl_control.specs.declared.control.Call.{Call}
 use Rattle.tcl_control.specs.declared.control.Call.TheVariants as call
 use Rattle.tcl_control.specs.declared.plan.Plan.{Plan}
 use Rattle.tcl_control.specs.declared.plan.Plan.TheVariants as plan
-use Rattle.tcl_control.specs.declared.turns.Test.{Test}
-use Rattle.tcl_control.specs.declared.turns.Test.TheVariants.{Holds, Items}
+use Rattle.tcl_control.specs.declared.loops.Test.{Test}
+use Rattle.tcl_control.specs.declared.loops.Test.TheVariants.{Holds, Items}
 use Rattle.tcl_commands.specs.declared.branches.Branch.{Branch}
 use Rattle.tcl_commands.specs.declared.groups.Group.{Group}
 use Rattle.tcl_expr.specs.declared.fault.EvalFault.{EvalFault}
 use Rattle.tcl_expr.specs.Run.{Run as Evaluating, AsksVariable, AsksElement, AsksCommand, Ends}
 use Rattle.tcl_expr.specs.Trees.{Tree, evaluation}
 use Rattle.tcl_control.specs.Expressions.{expression_of, truth_of_text}
-use Rattle.tcl_control.specs.declared.turns.Turning.{Turning}
+use Rattle.tcl_control.specs.declared.loops.Loop.{Loop}
 use Rattle.tcl_control.specs.Control.{Called, call_of}
 use Rattle.tcl_control.specs.Source.{script_of}
 use Rattle.tcl_control.specs.Texts.{element_name}
-use Rattle.tcl_control.specs.Turns.{Tested, More, NoMore, Fails, items_tested}
+use Rattle.tcl_control.specs.Loops.{Tested, More, NoMore, Fails, items_tested}
 use Rattle.tcl_interp.specs.declared.tasks.Act.{Act}
 use Rattle.tcl_interp.specs.declared.tasks.Act.TheVariants.{Done, Step, Run, Unknown}
 use Rattle.tcl_interp.specs.Outside.{Outside, Falls, RunsBelow}
 use Rattle.tcl_interp.specs.Evaluation.{State, Outcome, Ended, OutOfSteps, seen_level, and_then, on_normal, stepped, on_read, words_of, on_words, index_pieces, element_read, on_index, piece_meaning, pieces_meaning, index_depth, element_meaning, words_meaning, called, commands_meaning}
-use Rattle.tcl_interp.specs.Plans.{cut, others, levels_back, procedure_ended, caught, on_tested, loop_ended, after_body, after_next, run_at, next_turn, test_meaning, turn_meaning, turns_meaning, loop_meaning, plan_meaning}
+use Rattle.tcl_interp.specs.Plans.{with_first_levels, others, levels_back, procedure_ended, caught, on_tested, loop_ended, after_body, after_next, run_at, next_iteration, test_meaning, iteration_meaning, iterations_meaning, loop_meaning, plan_meaning}
 use Rattle.tcl_interp.specs.Expressions.{value_ended, with_truth, on_value, if_holds, run_meaning, tree_meaning, expression_meaning, condition_meaning, otherwise_meaning, choices_meaning}
-use Rattle.tcl_interp.specs.Scripts.{out_of_global, on_act, resumed, after_step, task_meaning, act_meaning, by_call, call_meaning, on_parsed, script_meaning}
+use Rattle.tcl_interp.specs.Acts.{on_act, resumed, after_step, task_meaning, act_meaning, script_meaning, outside_meaning}
+use Rattle.tcl_interp.specs.Scripts.{out_of_global, by_call, call_meaning, on_parsed}
 
 -- where something ends, at most so many steps are left
 abbrev pub Within : {S : Type 0} → ℕ → Outcome S → Type 0
@@ -181,9 +182,9 @@ module _ {S : Type 0} (run : List ℕ → State S → Outcome S) (run_falls : Bo
 
   pub within_run_at : (n count : ℕ) (script : List ℕ) (state : State S) → state.steps ≤ n → Within n (run_at run count script state)
   within_run_at n count script state w =
-      within_and_then n (run script (record state { context = cut count state.context })) (levels_back (others count state.context)) (run_falls n script (record state { context = cut count state.context }) w) (λ state' code text w'. w')
+      within_and_then n (run script (record state { context = with_first_levels count state.context })) (levels_back (others count state.context)) (run_falls n script (record state { context = with_first_levels count state.context }) w) (λ state' code text w'. w')
 
-  pub within_next : (n : ℕ) (next : Option (List ℕ)) (again : State S → Outcome S) → ((state : State S) → state.steps ≤ n → Within n (again state)) → (state : State S) → state.steps ≤ n → Within n (next_turn run next again state)
+  pub within_next : (n : ℕ) (next : Option (List ℕ)) (again : State S → Outcome S) → ((state : State S) → state.steps ≤ n → Within n (again state)) → (state : State S) → state.steps ≤ n → Within n (next_iteration run next again state)
   within_next n None again h state w = h state w
   within_next n (Some script) again h state w = within_and_then n (run script state) (after_next again) (run_falls n script state w) (within_after_next n again h)
 
@@ -191,16 +192,16 @@ module _ {S : Type 0} (run : List ℕ → State S → Outcome S) (run_falls : Bo
   within_test n (Holds condition) body state w h = within_condition n condition _ state w (within_if n (body (Holds condition)) loop_ended (h (Holds condition)) (λ state' w'. w'))
   within_test n (Items groups) body state w h = within_on_tested n state _ (items_tested (seen_level state) groups state.store) w (λ left state' w'. h (Items left) state' w')
 
-  pub within_turn : (n : ℕ) (turning : Turning) (again : State S → Outcome S) → ((state : State S) → state.steps ≤ n → Within n (again state)) → (state : State S) → state.steps ≤ n → Within n (turn_meaning run turning again state)
-  within_turn n turning again h state w =
-      within_and_then n (run turning.body state) (after_body (next_turn run turning.next again)) (run_falls n turning.body state w) (within_after_body n _ (within_next n turning.next again h))
+  pub within_iteration : (n : ℕ) (looping : Loop) (again : State S → Outcome S) → ((state : State S) → state.steps ≤ n → Within n (again state)) → (state : State S) → state.steps ≤ n → Within n (iteration_meaning run looping again state)
+  within_iteration n looping again h state w =
+      within_and_then n (run looping.body state) (after_body (next_iteration run looping.next again)) (run_falls n looping.body state w) (within_after_body n _ (within_next n looping.next again h))
 
-  pub within_turns : (n : ℕ) (turning : Turning) (turns : ℕ) (state : State S) → state.steps ≤ n → Within n (turns_meaning run turning turns state)
-  within_turns n turning zero state w = tt
-  within_turns n turning (suc turns) state w =
+  pub within_iterations : (n : ℕ) (looping : Loop) (iterations : ℕ) (state : State S) → state.steps ≤ n → Within n (iterations_meaning run looping iterations state)
+  within_iterations n looping zero state w = tt
+  within_iterations n looping (suc iterations) state w =
       within_stepped n state.steps state _ w (λ state' w'.
-      within_test n turning.test _ state' w' (λ test state'' w''.
-      within_turn n turning (turns_meaning run (record turning { test = test }) turns) (λ state3 w3. within_turns n (record turning { test = test }) turns state3 w3) state'' w''))
+      within_test n looping.test _ state' w' (λ test state'' w''.
+      within_iteration n looping (iterations_meaning run (record looping { test = test }) iterations) (λ state3 w3. within_iterations n (record looping { test = test }) iterations state3 w3) state'' w''))
 
   within_plan : (p : Plan) (n : ℕ) (state : State S) → state.steps ≤ n → Within n (plan_meaning run p state)
   within_plan (plan.Ends code text) n state w = w
@@ -210,12 +211,12 @@ module _ {S : Type 0} (run : List ℕ → State S → Outcome S) (run_falls : Bo
   within_plan (plan.Enters body) n state w = within_and_then n (run body state) procedure_ended (run_falls n body state w) (λ state' code text w'. w')
   within_plan (plan.Evaluates expression) n state w = within_expression n expression state w
   within_plan (plan.Chooses choices) n state w = within_choices n choices.branches choices.otherwise state w
-  within_plan (plan.Turns turning) n state w = within_turns n turning state.steps state w
-  within_plan (plan.Starts script turning) n state w =
-      within_and_then n (run script state) (on_normal (λ state' text. loop_meaning run turning state')) (run_falls n script state w)
-      (within_on_normal n (λ state' text. loop_meaning run turning state') (λ state' text w'. within_turns n turning state'.steps state' w'))
+  within_plan (plan.Loops looping) n state w = within_iterations n looping state.steps state w
+  within_plan (plan.Starts script looping) n state w =
+      within_and_then n (run script state) (on_normal (λ state' text. loop_meaning run looping state')) (run_falls n script state w)
+      (within_on_normal n (λ state' text. loop_meaning run looping state') (λ state' text w'. within_iterations n looping state'.steps state' w'))
 
--- ── the same turns ──
+-- ── the same iterations ──
 
 pub stepped_same : {S : Type 0} (left : ℕ) (state : State S) (f g : State S → Outcome S) → ((state : State S) → state.steps < left → f state ≡ g state) → stepped left state f ≡ stepped left state g
 stepped_same zero state f g h = refl
@@ -271,27 +272,27 @@ module _ {S : Type 0} (run : List ℕ → State S → Outcome S) (run_falls : Bo
       (λ holds. if_same (f (Holds condition)) (g (Holds condition)) loop_ended state' holds (h (Holds condition) state' le)))
   test_same (Items groups) f g state h = on_tested_same state _ _ (items_tested (seen_level state) groups state.store) (λ left state' le. h (Items left) state' le)
 
-  pub next_same : (next : Option (List ℕ)) (f g : State S → Outcome S) (state : State S) → ((state' : State S) → state'.steps ≤ state.steps → f state' ≡ g state') → next_turn run next f state ≡ next_turn run next g state
+  pub next_same : (next : Option (List ℕ)) (f g : State S → Outcome S) (state : State S) → ((state' : State S) → state'.steps ≤ state.steps → f state' ≡ g state') → next_iteration run next f state ≡ next_iteration run next g state
   next_same None f g state h = h state (omega arith)
   next_same (Some script) f g state h =
       and_then_same state.steps (run script state) (after_next f) (after_next g) (run_falls state.steps script state (omega arith)) (λ state' code text le. after_next_same f g state' code text (h state' le))
 
-  pub turn_same : (turning : Turning) (f g : State S → Outcome S) (state : State S) → ((state' : State S) → state'.steps ≤ state.steps → f state' ≡ g state') → turn_meaning run turning f state ≡ turn_meaning run turning g state
-  turn_same turning f g state h =
-      and_then_same state.steps (run turning.body state) (after_body (next_turn run turning.next f)) (after_body (next_turn run turning.next g)) (run_falls state.steps turning.body state (omega arith))
-      (λ state' code text le. after_body_same (next_turn run turning.next f) (next_turn run turning.next g) state' code text
-      (next_same turning.next f g state' (λ state'' le'. h state'' (omega arith))))
+  pub iteration_same : (looping : Loop) (f g : State S → Outcome S) (state : State S) → ((state' : State S) → state'.steps ≤ state.steps → f state' ≡ g state') → iteration_meaning run looping f state ≡ iteration_meaning run looping g state
+  iteration_same looping f g state h =
+      and_then_same state.steps (run looping.body state) (after_body (next_iteration run looping.next f)) (after_body (next_iteration run looping.next g)) (run_falls state.steps looping.body state (omega arith))
+      (λ state' code text le. after_body_same (next_iteration run looping.next f) (next_iteration run looping.next g) state' code text
+      (next_same looping.next f g state' (λ state'' le'. h state'' (omega arith))))
 
-  -- the number of turns doesn't matter where it is at least that of the steps
-  pub turns_same : (turning : Turning) (t u : ℕ) (state : State S) → state.steps ≤ t → state.steps ≤ u → turns_meaning run turning t state ≡ turns_meaning run turning u state
-  turns_same turning zero zero state v w = refl
-  turns_same turning zero (suc u) state v w = sym (stepped_none state.steps state _ v)
-  turns_same turning (suc t) zero state v w = stepped_none state.steps state _ w
-  turns_same turning (suc t) (suc u) state v w =
+  -- the number of iterations doesn't matter where it is at least that of the steps
+  pub iterations_same : (looping : Loop) (t u : ℕ) (state : State S) → state.steps ≤ t → state.steps ≤ u → iterations_meaning run looping t state ≡ iterations_meaning run looping u state
+  iterations_same looping zero zero state v w = refl
+  iterations_same looping zero (suc u) state v w = sym (stepped_none state.steps state _ v)
+  iterations_same looping (suc t) zero state v w = stepped_none state.steps state _ w
+  iterations_same looping (suc t) (suc u) state v w =
       stepped_same state.steps state _ _ (λ state' less.
-      test_same turning.test _ _ state' (λ test state'' le.
-      turn_same turning (turns_meaning run (record turning { test = test }) t) (turns_meaning run (record turning { test = test }) u) state''
-      (λ state3 le3. turns_same (record turning { test = test }) t u state3 (omega arith) (omega arith))))
+      test_same looping.test _ _ state' (λ test state'' le.
+      iteration_same looping (iterations_meaning run (record looping { test = test }) t) (iterations_meaning run (record looping { test = test }) u) state''
+      (λ state3 le3. iterations_same (record looping { test = test }) t u state3 (omega arith) (omega arith))))
 
 module _ {S K : Type 0} (outside : Outside S K) (run : List ℕ → State S → Outcome S) (run_falls : Bounded run) where
   within_on_act : (n : ℕ) (f : K → State S → Outcome S) (g : K → State S → Code → List ℕ → Outcome S) → ((task : K) (state : State S) → state.steps ≤ n → Within n (f task state)) → ((task : K) (state : State S) (code : Code) (text : List ℕ) → state.steps ≤ n → Within n (g task state code text)) → (name : List ℕ) (state : State S) (act : Act K) → state.steps ≤ n → Within n (on_act run f g name state act)
@@ -307,9 +308,9 @@ module _ {S K : Type 0} (outside : Outside S K) (run : List ℕ → State S → 
   within_resumed n f h (suc size) task state code text w =
       within_on_act n f (resumed outside run f size) h (λ task' state' code' text' w'. within_resumed n f h size task' state' code' text' w') [] _ (outside.resumes state.shows state.store task code text).act w
 
-  pub within_after_step : (n turns : ℕ) (task : K) (state : State S) → state.steps ≤ n → Within n (after_step outside run turns task state)
+  pub within_after_step : (n iterations : ℕ) (task : K) (state : State S) → state.steps ≤ n → Within n (after_step outside run iterations task state)
   within_after_step n zero task state w = tt
-  within_after_step n (suc turns) task state w = within_resumed n (after_step outside run turns) (within_after_step n turns) (outside.size task) task state Normal [] w
+  within_after_step n (suc iterations) task state w = within_resumed n (after_step outside run iterations) (within_after_step n iterations) (outside.size task) task state Normal [] w
 
   pub within_task : (n : ℕ) (task : K) (state : State S) (code : Code) (text : List ℕ) → state.steps ≤ n → Within n (task_meaning outside run task state code text)
   within_task n task state code text w = within_resumed n (after_step outside run state.steps) (within_after_step n state.steps) (outside.size task) task state code text w
@@ -317,12 +318,12 @@ module _ {S K : Type 0} (outside : Outside S K) (run : List ℕ → State S → 
   within_act : (n : ℕ) (name : List ℕ) (state : State S) (act : Act K) → state.steps ≤ n → Within n (act_meaning outside run name state act)
   within_act n name state act w = within_on_act n (after_step outside run state.steps) (task_meaning outside run) (within_after_step n state.steps) (within_task n) name state act w
 
-  within_by_call : (n : ℕ) (name : List ℕ) (arguments : List (List ℕ)) (state : State S) (c : Call) → state.steps ≤ n → Within n (by_call outside run name arguments state c)
+  within_by_call : (n : ℕ) (name : List ℕ) (arguments : List (List ℕ)) (state : State S) (c : Call) → state.steps ≤ n → Within n (by_call (outside_meaning outside) run name arguments state c)
   within_by_call n name arguments state (call.Plans p) w = within_plan run run_falls p n state w
   within_by_call n name arguments state (call.Outside first) w = within_act n name _ (outside.calls state.shows state.store (first ∷ arguments)).act w
   within_by_call n name arguments state call.Unknown w = w
 
-  pub within_call : Bounded (call_meaning outside run)
+  pub within_call : Bounded (call_meaning (outside_meaning outside) run)
   within_call n [] state w = w
   within_call n (name ∷ arguments) state w =
       let c : Called = call_of name arguments state.store state.context in
@@ -362,5 +363,5 @@ module _ {S K : Type 0} (outside : Outside S K) where
   within_script zero n text state w = w
   within_script (suc room) n text state w =
       within_on_parsed n _ state (script_of text) w (λ commands.
-      within_commands (script_meaning outside room) (call_meaning outside (script_meaning outside room)) (within_script room)
+      within_commands (script_meaning outside room) (call_meaning (outside_meaning outside) (script_meaning outside room)) (within_script room)
       (within_call outside (script_meaning outside room) (within_script room)) n commands [] state w)

@@ -5,7 +5,8 @@ use Rattle.tcl_control.specs.declared.code.Code.{Code}
 use Rattle.tcl_control.specs.declared.context.Context.{Context}
 use Rattle.tcl_interp.specs.Evaluation.{State, Outcome, Ended, OutOfSteps, and_then}
 use Rattle.tcl_interp.specs.Plans.{run_at}
-use Rattle.tcl_interp.specs.Scripts.{script_meaning, out_of_global}
+use Rattle.tcl_interp.specs.Acts.{script_meaning}
+use Rattle.tcl_interp.specs.Scripts.{out_of_global}
 use Rattle.tcl_interp.proofs.Bounds.{Within, within_run_at, within_script}
 use Rattle.tcl_interp.specs.declared.job.Looked.{Looked}
 use Rattle.tcl_interp.specs.declared.job.Looked.TheVariants.{Wants, Ends}

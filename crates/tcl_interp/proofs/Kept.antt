@@ -13,26 +13,27 @@ use Rattle.tcl_control.specs.declared.control.Call.{Call}
 use Rattle.tcl_control.specs.declared.control.Call.TheVariants as call
 use Rattle.tcl_control.specs.declared.plan.Plan.{Plan}
 use Rattle.tcl_control.specs.declared.plan.Plan.TheVariants as plan
-use Rattle.tcl_control.specs.declared.turns.Test.{Test}
-use Rattle.tcl_control.specs.declared.turns.Test.TheVariants.{Holds, Items}
+use Rattle.tcl_control.specs.declared.loops.Test.{Test}
+use Rattle.tcl_control.specs.declared.loops.Test.TheVariants.{Holds, Items}
 use Rattle.tcl_commands.specs.declared.branches.Branch.{Branch}
 use Rattle.tcl_commands.specs.declared.groups.Group.{Group}
 use Rattle.tcl_expr.specs.declared.fault.EvalFault.{EvalFault}
 use Rattle.tcl_expr.specs.Run.{Run as Evaluating, AsksVariable, AsksElement, AsksCommand, Ends}
 use Rattle.tcl_expr.specs.Trees.{Tree, evaluation}
 use Rattle.tcl_control.specs.Expressions.{expression_of, truth_of_text}
-use Rattle.tcl_control.specs.declared.turns.Turning.{Turning}
+use Rattle.tcl_control.specs.declared.loops.Loop.{Loop}
 use Rattle.tcl_control.specs.Control.{Called, call_of}
 use Rattle.tcl_control.specs.Source.{script_of}
 use Rattle.tcl_control.specs.Texts.{element_name}
-use Rattle.tcl_control.specs.Turns.{Tested, More, NoMore, Fails, items_tested}
+use Rattle.tcl_control.specs.Loops.{Tested, More, NoMore, Fails, items_tested}
 use Rattle.tcl_interp.specs.declared.tasks.Act.{Act}
 use Rattle.tcl_interp.specs.declared.tasks.Act.TheVariants.{Done, Step, Run, Unknown}
 use Rattle.tcl_interp.specs.Outside.{Outside}
 use Rattle.tcl_interp.specs.Evaluation.{State, Outcome, Ended, OutOfSteps, seen_level, and_then, on_normal, stepped, on_read, words_of, on_words, index_pieces, element_read, on_index, piece_meaning, pieces_meaning, index_depth, element_meaning, words_meaning, called, commands_meaning}
-use Rattle.tcl_interp.specs.Plans.{cut, others, levels_back, procedure_ended, caught, on_tested, loop_ended, after_body, after_next, run_at, next_turn, test_meaning, turn_meaning, turns_meaning, loop_meaning, plan_meaning}
+use Rattle.tcl_interp.specs.Plans.{with_first_levels, others, levels_back, procedure_ended, caught, on_tested, loop_ended, after_body, after_next, run_at, next_iteration, test_meaning, iteration_meaning, iterations_meaning, loop_meaning, plan_meaning}
 use Rattle.tcl_interp.specs.Expressions.{value_ended, with_truth, on_value, if_holds, run_meaning, tree_meaning, expression_meaning, condition_meaning, otherwise_meaning, choices_meaning}
-use Rattle.tcl_interp.specs.Scripts.{out_of_global, on_act, resumed, after_step, task_meaning, act_meaning, by_call, call_meaning, on_parsed, script_meaning}
+use Rattle.tcl_interp.specs.Acts.{on_act, resumed, after_step, task_meaning, act_meaning, script_meaning, outside_meaning}
+use Rattle.tcl_interp.specs.Scripts.{out_of_global, by_call, call_meaning, on_parsed}
 
 module _ {S : Type 0} (P : S → Type 0) where
   -- the calls and the tasks keep it
@@ -188,9 +189,9 @@ module _ {S : Type 0} (P : S → Type 0) where
 
     pub kept_run_at : (count : ℕ) (script : List ℕ) (state : State S) → P state.shows → Kept (run_at run count script state)
     kept_run_at count script state w =
-        kept_and_then (run script (record state { context = cut count state.context })) (levels_back (others count state.context)) (run_keeps script (record state { context = cut count state.context }) w) (λ state' code text w'. w')
+        kept_and_then (run script (record state { context = with_first_levels count state.context })) (levels_back (others count state.context)) (run_keeps script (record state { context = with_first_levels count state.context }) w) (λ state' code text w'. w')
 
-    pub kept_next : (next : Option (List ℕ)) (again : State S → Outcome S) → ((state : State S) → P state.shows → Kept (again state)) → (state : State S) → P state.shows → Kept (next_turn run next again state)
+    pub kept_next : (next : Option (List ℕ)) (again : State S → Outcome S) → ((state : State S) → P state.shows → Kept (again state)) → (state : State S) → P state.shows → Kept (next_iteration run next again state)
     kept_next None again h state w = h state w
     kept_next (Some script) again h state w = kept_and_then (run script state) (after_next again) (run_keeps script state w) (kept_after_next again h)
 
@@ -198,16 +199,16 @@ module _ {S : Type 0} (P : S → Type 0) where
     kept_test (Holds condition) body state w h = kept_condition condition _ state w (kept_if (body (Holds condition)) loop_ended (h (Holds condition)) (λ state' w'. w'))
     kept_test (Items groups) body state w h = kept_on_tested state _ (items_tested (seen_level state) groups state.store) w (λ left state' w'. h (Items left) state' w')
 
-    pub kept_turn : (turning : Turning) (again : State S → Outcome S) → ((state : State S) → P state.shows → Kept (again state)) → (state : State S) → P state.shows → Kept (turn_meaning run turning again state)
-    kept_turn turning again h state w =
-        kept_and_then (run turning.body state) (after_body (next_turn run turning.next again)) (run_keeps turning.body state w) (kept_after_body _ (kept_next turning.next again h))
+    pub kept_iteration : (looping : Loop) (again : State S → Outcome S) → ((state : State S) → P state.shows → Kept (again state)) → (state : State S) → P state.shows → Kept (iteration_meaning run looping again state)
+    kept_iteration looping again h state w =
+        kept_and_then (run looping.body state) (after_body (next_iteration run looping.next again)) (run_keeps looping.body state w) (kept_after_body _ (kept_next looping.next again h))
 
-    pub kept_turns : (turning : Turning) (turns : ℕ) (state : State S) → P state.shows → Kept (turns_meaning run turning turns state)
-    kept_turns turning zero state w = tt
-    kept_turns turning (suc turns) state w =
+    pub kept_iterations : (looping : Loop) (iterations : ℕ) (state : State S) → P state.shows → Kept (iterations_meaning run looping iterations state)
+    kept_iterations looping zero state w = tt
+    kept_iterations looping (suc iterations) state w =
         kept_stepped state.steps state _ w (λ state' w'.
-        kept_test turning.test _ state' w' (λ test state'' w''.
-        kept_turn turning (turns_meaning run (record turning { test = test }) turns) (λ state3 w3. kept_turns (record turning { test = test }) turns state3 w3) state'' w''))
+        kept_test looping.test _ state' w' (λ test state'' w''.
+        kept_iteration looping (iterations_meaning run (record looping { test = test }) iterations) (λ state3 w3. kept_iterations (record looping { test = test }) iterations state3 w3) state'' w''))
 
     kept_plan : (p : Plan) (state : State S) → P state.shows → Kept (plan_meaning run p state)
     kept_plan (plan.Ends code text) state w = w
@@ -217,10 +218,10 @@ module _ {S : Type 0} (P : S → Type 0) where
     kept_plan (plan.Enters body) state w = kept_and_then (run body state) procedure_ended (run_keeps body state w) (λ state' code text w'. w')
     kept_plan (plan.Evaluates expression) state w = kept_expression expression state w
     kept_plan (plan.Chooses choices) state w = kept_choices choices.branches choices.otherwise state w
-    kept_plan (plan.Turns turning) state w = kept_turns turning state.steps state w
-    kept_plan (plan.Starts script turning) state w =
-        kept_and_then (run script state) (on_normal (λ state' text. loop_meaning run turning state')) (run_keeps script state w)
-        (kept_on_normal (λ state' text. loop_meaning run turning state') (λ state' text w'. kept_turns turning state'.steps state' w'))
+    kept_plan (plan.Loops looping) state w = kept_iterations looping state.steps state w
+    kept_plan (plan.Starts script looping) state w =
+        kept_and_then (run script state) (on_normal (λ state' text. loop_meaning run looping state')) (run_keeps script state w)
+        (kept_on_normal (λ state' text. loop_meaning run looping state') (λ state' text w'. kept_iterations looping state'.steps state' w'))
 
   module _ {K : Type 0} (outside : Outside S K) (keeps : Keeps outside) (run : List ℕ → State S → Outcome S) (run_keeps : KeepsRun run) where
     kept_on_act : (f : K → State S → Outcome S) (g : K → State S → Code → List ℕ → Outcome S) → ((task : K) (state : State S) → P state.shows → Kept (f task state)) → ((task : K) (state : State S) (code : Code) (text : List ℕ) → P state.shows → Kept (g task state code text)) → (name : List ℕ) (state : State S) (act : Act K) → P state.shows → Kept (on_act run f g name state act)
@@ -236,9 +237,9 @@ module _ {S : Type 0} (P : S → Type 0) where
     kept_resumed f h (suc size) task state code text w =
         kept_on_act f (resumed outside run f size) h (λ task' state' code' text' w'. kept_resumed f h size task' state' code' text' w') [] _ (outside.resumes state.shows state.store task code text).act (keeps.1 state.shows state.store task code text w)
 
-    pub kept_after_step : (turns : ℕ) (task : K) (state : State S) → P state.shows → Kept (after_step outside run turns task state)
+    pub kept_after_step : (iterations : ℕ) (task : K) (state : State S) → P state.shows → Kept (after_step outside run iterations task state)
     kept_after_step zero task state w = tt
-    kept_after_step (suc turns) task state w = kept_resumed (after_step outside run turns) (kept_after_step turns) (outside.size task) task state Normal [] w
+    kept_after_step (suc iterations) task state w = kept_resumed (after_step outside run iterations) (kept_after_step iterations) (outside.size task) task state Normal [] w
 
     pub kept_task : (task : K) (state : State S) (code : Code) (text : List ℕ) → P state.shows → Kept (task_meaning outside run task state code text)
     kept_task task state code text w = kept_resumed (after_step outside run state.steps) (kept_after_step state.steps) (outside.size task) task state code text w
@@ -246,12 +247,12 @@ module _ {S : Type 0} (P : S → Type 0) where
     kept_act : (name : List ℕ) (state : State S) (act : Act K) → P state.shows → Kept (act_meaning outside run name state act)
     kept_act name state act w = kept_on_act (after_step outside run state.steps) (task_meaning outside run) (kept_after_step state.steps) (kept_task) name state act w
 
-    kept_by_call : (name : List ℕ) (arguments : List (List ℕ)) (state : State S) (c : Call) → P state.shows → Kept (by_call outside run name arguments state c)
+    kept_by_call : (name : List ℕ) (arguments : List (List ℕ)) (state : State S) (c : Call) → P state.shows → Kept (by_call (outside_meaning outside) run name arguments state c)
     kept_by_call name arguments state (call.Plans p) w = kept_plan run run_keeps p state w
     kept_by_call name arguments state (call.Outside first) w = kept_act name _ (outside.calls state.shows state.store (first ∷ arguments)).act (keeps.0 state.shows state.store (first ∷ arguments) w)
     kept_by_call name arguments state call.Unknown w = w
 
-    pub kept_call : KeepsRun (call_meaning outside run)
+    pub kept_call : KeepsRun (call_meaning (outside_meaning outside) run)
     kept_call [] state w = w
     kept_call (name ∷ arguments) state w =
         let c : Called = call_of name arguments state.store state.context in
@@ -267,5 +268,5 @@ module _ {S : Type 0} (P : S → Type 0) where
     kept_script zero text state w = w
     kept_script (suc room) text state w =
         kept_on_parsed _ state (script_of text) w (λ commands.
-        kept_commands (script_meaning outside room) (call_meaning outside (script_meaning outside room)) (kept_script room)
+        kept_commands (script_meaning outside room) (call_meaning (outside_meaning outside) (script_meaning outside room)) (kept_script room)
         (kept_call outside keeps (script_meaning outside room) (kept_script room)) commands [] state w)

@@ -3,7 +3,7 @@ use Rattle.std.proofs.Common.{◌≡◌, ℕ, List, refl, ◌∙◌}
 use Rattle.tcl_control.specs.declared.code.Code.{Code}
 use Rattle.tcl_interp.specs.Evaluation.{State, Outcome, Ended, OutOfSteps}
 use Rattle.tcl_interp.specs.Outside.{Outside}
-use Rattle.tcl_interp.specs.Scripts.{script_meaning, task_meaning}
+use Rattle.tcl_interp.specs.Acts.{script_meaning, task_meaning}
 use Rattle.tcl_interp.specs.Leaves.{EndsWith, Leaves, ScriptsLeave, TasksLeave}
 use Rattle.tcl_interp.proofs.Kept.{Keeps, Kept, kept_script, kept_task}
 

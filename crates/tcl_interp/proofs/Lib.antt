@@ -1,4 +1,5 @@
 -- What the proofs share.
+pub mod Agreeing
 pub mod Answering
 pub mod Bounds
 pub mod ChoiceLemmas

@@ -6,7 +6,7 @@ use Rattle.tcl_vars.specs.Store.{Store}
 use Rattle.tcl_control.specs.declared.code.Code.{Code}
 use Rattle.tcl_control.specs.declared.code.Code.TheVariants.{Normal}
 use Rattle.tcl_control.specs.declared.context.Context.{Context}
-use Rattle.tcl_control.specs.declared.turns.Turning.{Turning}
+use Rattle.tcl_control.specs.declared.loops.Loop.{Loop}
 use Rattle.tcl_interp.specs.Outside.{Outside}
 use Rattle.tcl_interp.specs.Finish.{Begins, Doing, Ends, GoesOn, Tests, Waiting}
 use Rattle.tcl_interp.specs.Moves.{Standing, begin_move, moved, standing, test_move}
@@ -47,10 +47,10 @@ module _ {S K : Type 0} (outside : Outside S K) where
   steps_lead n first second third shows shows' steps leads = λ left. steps left ∙ leads_none outside second third shows' leads left
 
   -- a loop is tested, and moves without a step are made
-  pub test_leads_on : (room : ℕ) (turning : Turning) (waits : List (Waiting K)) (shows : S) (store : Store) (context : Context) (second third : Standing K)
-      → Leads (test_move room turning store context waits turning.test) second → Leads second third
-      → TakesSteps outside 1 (standing (moved (Tests room turning) waits) store context) shows third shows
-  test_leads_on room turning waits shows store context second third tested leads =
-      let from : Standing K = standing (moved (Tests room turning) waits) store context in
-      let step : TakesStep outside from shows second shows = test_given outside room turning waits shows store context second tested in
+  pub test_leads_on : (room : ℕ) (looping : Loop) (waits : List (Waiting K)) (shows : S) (store : Store) (context : Context) (second third : Standing K)
+      → Leads (test_move room looping store context waits looping.test) second → Leads second third
+      → TakesSteps outside 1 (standing (moved (Tests room looping) waits) store context) shows third shows
+  test_leads_on room looping waits shows store context second third tested leads =
+      let from : Standing K = standing (moved (Tests room looping) waits) store context in
+      let step : TakesStep outside from shows second shows = test_given outside room looping waits shows store context second tested in
       λ left. ap (finish_from outside from shows) (let one : 1 + left ≡ suc left = omega arith in one) ∙ step left ∙ leads_none outside second third shows leads left

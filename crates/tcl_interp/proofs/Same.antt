@@ -11,7 +11,7 @@ use Rattle.tcl_text.specs.declared.fault.ReadFault.{ReadFault}
 use Rattle.tcl_control.specs.declared.code.Code.{Code}
 use Rattle.tcl_control.specs.declared.code.Code.TheVariants.{Normal, Error, Return, Break, Continue}
 use Rattle.tcl_control.specs.declared.context.Context.{Context}
-use Rattle.tcl_control.specs.declared.turns.Turning.{Turning}
+use Rattle.tcl_control.specs.declared.loops.Loop.{Loop}
 use Rattle.tcl_control.specs.Expressions.{tree_or_text, truth_of_text}
 use Rattle.tcl_control.specs.ExpressionForms.{evaluation_begun, evaluation_begins}
 use Rattle.tcl_commands.specs.declared.branches.Branch.{Branch}
@@ -29,11 +29,12 @@ use Rattle.tcl_expr.proofs.CompileLemmas.{execute_whole}
 use Rattle.tcl_interp.specs.Outside.{Outside}
 use Rattle.tcl_interp.specs.Evaluation.{State, Outcome, Ended, OutOfSteps, seen_level, and_then, on_normal, with_step, on_read, with_joined, words_of, on_words, index_pieces, element_read, on_index, pieces_meaning, index_depth, element_meaning}
 use Rattle.tcl_interp.specs.Expressions.{with_truth, on_value, if_holds, run_meaning, tree_meaning, expression_meaning, otherwise_meaning, choices_meaning}
-use Rattle.tcl_interp.specs.Plans.{loop_ended, after_body, after_next, next_turn}
-use Rattle.tcl_interp.specs.Scripts.{out_of_global, at_global, call_meaning, on_parsed, script_meaning}
-use Rattle.tcl_interp.specs.Finish.{Wording, Indexing, Doing, Begins, GoesOn, Indexes, Evaluates, Calls, Tests, Steps, Resumes, Ends, Waiting, ForCommand, ForPart, ForIndex, ForValue, ForTest, ForChoice, ForBody, ForNext, ForStart, ForCatch, ForLevels, ForProcedure, ForScript, ForAll, Running, script_rest, words_rest, word_done, index_rest, value_rest, choice_rest, turn_rest, loop_rest, waiting_meaning, waits_meaning, finish}
+use Rattle.tcl_interp.specs.Plans.{loop_ended, after_body, after_next, next_iteration}
+use Rattle.tcl_interp.specs.Acts.{script_meaning, outside_meaning}
+use Rattle.tcl_interp.specs.Scripts.{out_of_global, at_global, call_meaning, on_parsed}
+use Rattle.tcl_interp.specs.Finish.{Wording, Indexing, Doing, Begins, GoesOn, Indexes, Evaluates, Calls, Tests, Steps, Resumes, Ends, Waiting, ForCommand, ForPart, ForIndex, ForValue, ForTest, ForChoice, ForBody, ForNext, ForStart, ForCatch, ForLevels, ForProcedure, ForScript, ForAll, Running, script_rest, words_rest, word_done, index_rest, value_rest, choice_rest, iteration_rest, loop_rest, waiting_meaning, waits_meaning, finish}
 use Rattle.tcl_interp.specs.Quiet.{told_run, EvaluationMoves, MovesBy, LeadsBy, Leads}
-use Rattle.tcl_interp.specs.Moves.{Moved, Standing, Part, Script, ElementOf, variable_value, WordEnd, Whole, Failed, AtPart, join_end, piece_end, word_end, with_more_words, moved, more_move, index_begins, element_begins, part_begins, word_move, words_move, element_end, index_move, indexes_move, parsed_move, begin_move, go_on_move, after_command, after_part, after_index, begun_as, expression_begins, value_given, answer_move, otherwise_move, choice_move, after_value_move, turn_move, after_test_move, chosen_move, after_choice_move, next_move, after_body_move, after_next_move, after_start_move, global_end, end_move}
+use Rattle.tcl_interp.specs.Moves.{Moved, Standing, Part, Script, ElementOf, variable_value, WordEnd, Whole, Failed, AtPart, join_end, piece_end, word_end, with_more_words, moved, more_move, index_begins, element_begins, part_begins, word_move, words_move, element_end, index_move, indexes_move, parsed_move, begin_move, go_on_move, after_command, after_part, after_index, begun_as, expression_begins, value_given, answer_move, otherwise_move, choice_move, after_value_move, iteration_move, after_test_move, chosen_move, after_choice_move, next_move, after_body_move, after_next_move, after_start_move, global_end, end_move}
 
 pub and_then_assoc : {S : Type 0} (o : Outcome S) (f g : State S → Code → List ℕ → Outcome S) → and_then (and_then o f) g ≡ and_then o (λ state code text. and_then (f state code text) g)
 and_then_assoc (Ended state code text) f g = refl
@@ -94,7 +95,7 @@ module _ {S K : Type 0} (outside : Outside S K) where
   run_in room = script_meaning outside room
 
   abbrev call_in : ℕ → List (List ℕ) → State S → Outcome S
-  call_in room = call_meaning outside (script_meaning outside room)
+  call_in room = call_meaning (outside_meaning outside) (script_meaning outside room)
 
   -- an element, where scripts have so much room, and indices go so deep
   abbrev pub elements_in : ℕ → ℕ → List ℕ → List ℕ → State S → Outcome S
@@ -281,17 +282,17 @@ module _ {S K : Type 0} (outside : Outside S K) where
   value_end_same room evaluation waits state Break text = refl
   value_end_same room evaluation waits state Continue text = refl
 
-  turn_same_by : (room : ℕ) (turning : Turning) (waits : List (Waiting K)) (state : State S) (truth : Result Bool (List ℕ)) → and_then (with_truth state (if_holds (turn_rest outside room turning) loop_ended) truth) (waits_meaning outside waits) ≡ finish_moved (turn_move room turning waits truth) state
-  turn_same_by room turning waits state (Ok true) = and_then_assoc (run_in room turning.body state) (after_body (next_turn (run_in room) turning.next (loop_rest outside room turning))) (waits_meaning outside waits)
-  turn_same_by room turning waits state (Ok false) = refl
-  turn_same_by room turning waits state (Err text) = refl
+  iteration_same_by : (room : ℕ) (looping : Loop) (waits : List (Waiting K)) (state : State S) (truth : Result Bool (List ℕ)) → and_then (with_truth state (if_holds (iteration_rest outside room looping) loop_ended) truth) (waits_meaning outside waits) ≡ finish_moved (iteration_move room looping waits truth) state
+  iteration_same_by room looping waits state (Ok true) = and_then_assoc (run_in room looping.body state) (after_body (next_iteration (run_in room) looping.next (loop_rest outside room looping))) (waits_meaning outside waits)
+  iteration_same_by room looping waits state (Ok false) = refl
+  iteration_same_by room looping waits state (Err text) = refl
 
-  test_end_same : (room : ℕ) (turning : Turning) (waits : List (Waiting K)) (state : State S) (code : Code) (text : List ℕ) → and_then (waiting_meaning outside (ForTest room turning) state code text) (waits_meaning outside waits) ≡ finish_moved (after_test_move room turning waits code text) state
-  test_end_same room turning waits state Normal text = turn_same_by room turning waits state (truth_of_text text)
-  test_end_same room turning waits state Error text = refl
-  test_end_same room turning waits state (Return code) text = refl
-  test_end_same room turning waits state Break text = refl
-  test_end_same room turning waits state Continue text = refl
+  test_end_same : (room : ℕ) (looping : Loop) (waits : List (Waiting K)) (state : State S) (code : Code) (text : List ℕ) → and_then (waiting_meaning outside (ForTest room looping) state code text) (waits_meaning outside waits) ≡ finish_moved (after_test_move room looping waits code text) state
+  test_end_same room looping waits state Normal text = iteration_same_by room looping waits state (truth_of_text text)
+  test_end_same room looping waits state Error text = refl
+  test_end_same room looping waits state (Return code) text = refl
+  test_end_same room looping waits state Break text = refl
+  test_end_same room looping waits state Continue text = refl
 
   chosen_same : (room : ℕ) (branches : List Branch) (otherwise : Option (List ℕ)) (waits : List (Waiting K)) (state : State S) (truth : Result Bool (List ℕ)) → and_then (with_truth state (choice_rest outside room branches otherwise) truth) (waits_meaning outside waits) ≡ finish_moved (chosen_move room branches otherwise waits truth) state
   chosen_same room [] otherwise waits state (Ok holds) = otherwise_same room otherwise waits state
@@ -307,31 +308,31 @@ module _ {S K : Type 0} (outside : Outside S K) where
   choice_end_same room branches otherwise waits state Break text = refl
   choice_end_same room branches otherwise waits state Continue text = refl
 
-  next_test_same : (room : ℕ) (turning : Turning) (waits : List (Waiting K)) (state : State S) (next : Option (List ℕ))
-      → and_then (next_turn (run_in room) next (loop_rest outside room turning) state) (waits_meaning outside waits) ≡ finish_moved (next_move room turning waits next) state
-  next_test_same room turning waits state None = refl
-  next_test_same room turning waits state (Some script) = and_then_assoc (run_in room script state) (after_next (loop_rest outside room turning)) (waits_meaning outside waits)
+  next_test_same : (room : ℕ) (looping : Loop) (waits : List (Waiting K)) (state : State S) (next : Option (List ℕ))
+      → and_then (next_iteration (run_in room) next (loop_rest outside room looping) state) (waits_meaning outside waits) ≡ finish_moved (next_move room looping waits next) state
+  next_test_same room looping waits state None = refl
+  next_test_same room looping waits state (Some script) = and_then_assoc (run_in room script state) (after_next (loop_rest outside room looping)) (waits_meaning outside waits)
 
-  body_end_same : (room : ℕ) (turning : Turning) (waits : List (Waiting K)) (state : State S) (code : Code) (text : List ℕ) → and_then (waiting_meaning outside (ForBody room turning) state code text) (waits_meaning outside waits) ≡ finish_moved (after_body_move room turning waits code text) state
-  body_end_same room turning waits state Normal text = next_test_same room turning waits state turning.next
-  body_end_same room turning waits state Error text = refl
-  body_end_same room turning waits state (Return code) text = refl
-  body_end_same room turning waits state Break text = refl
-  body_end_same room turning waits state Continue text = next_test_same room turning waits state turning.next
+  body_end_same : (room : ℕ) (looping : Loop) (waits : List (Waiting K)) (state : State S) (code : Code) (text : List ℕ) → and_then (waiting_meaning outside (ForBody room looping) state code text) (waits_meaning outside waits) ≡ finish_moved (after_body_move room looping waits code text) state
+  body_end_same room looping waits state Normal text = next_test_same room looping waits state looping.next
+  body_end_same room looping waits state Error text = refl
+  body_end_same room looping waits state (Return code) text = refl
+  body_end_same room looping waits state Break text = refl
+  body_end_same room looping waits state Continue text = next_test_same room looping waits state looping.next
 
-  next_end_same : (room : ℕ) (turning : Turning) (waits : List (Waiting K)) (state : State S) (code : Code) (text : List ℕ) → and_then (waiting_meaning outside (ForNext room turning) state code text) (waits_meaning outside waits) ≡ finish_moved (after_next_move room turning waits code text) state
-  next_end_same room turning waits state Normal text = refl
-  next_end_same room turning waits state Error text = refl
-  next_end_same room turning waits state (Return code) text = refl
-  next_end_same room turning waits state Break text = refl
-  next_end_same room turning waits state Continue text = refl
+  next_end_same : (room : ℕ) (looping : Loop) (waits : List (Waiting K)) (state : State S) (code : Code) (text : List ℕ) → and_then (waiting_meaning outside (ForNext room looping) state code text) (waits_meaning outside waits) ≡ finish_moved (after_next_move room looping waits code text) state
+  next_end_same room looping waits state Normal text = refl
+  next_end_same room looping waits state Error text = refl
+  next_end_same room looping waits state (Return code) text = refl
+  next_end_same room looping waits state Break text = refl
+  next_end_same room looping waits state Continue text = refl
 
-  start_end_same : (room : ℕ) (turning : Turning) (waits : List (Waiting K)) (state : State S) (code : Code) (text : List ℕ) → and_then (waiting_meaning outside (ForStart room turning) state code text) (waits_meaning outside waits) ≡ finish_moved (after_start_move room turning waits code text) state
-  start_end_same room turning waits state Normal text = refl
-  start_end_same room turning waits state Error text = refl
-  start_end_same room turning waits state (Return code) text = refl
-  start_end_same room turning waits state Break text = refl
-  start_end_same room turning waits state Continue text = refl
+  start_end_same : (room : ℕ) (looping : Loop) (waits : List (Waiting K)) (state : State S) (code : Code) (text : List ℕ) → and_then (waiting_meaning outside (ForStart room looping) state code text) (waits_meaning outside waits) ≡ finish_moved (after_start_move room looping waits code text) state
+  start_end_same room looping waits state Normal text = refl
+  start_end_same room looping waits state Error text = refl
+  start_end_same room looping waits state (Return code) text = refl
+  start_end_same room looping waits state Break text = refl
+  start_end_same room looping waits state Continue text = refl
 
   global_end_same : (waits : List (Waiting K)) (state : State S) (code : Code) (text : List ℕ) → and_then (at_global state code text) (waits_meaning outside waits) ≡ finish_moved (moved (global_end code text) waits) state
   global_end_same waits state Normal text = refl
@@ -345,11 +346,11 @@ module _ {S K : Type 0} (outside : Outside S K) where
   end_same code text (ForPart w) waits state = part_end_same w waits state code text
   end_same code text (ForIndex x) waits state = index_end_same x waits state code text
   end_same code text (ForValue room evaluation) waits state = value_end_same room evaluation waits state code text
-  end_same code text (ForTest room turning) waits state = test_end_same room turning waits state code text
+  end_same code text (ForTest room looping) waits state = test_end_same room looping waits state code text
   end_same code text (ForChoice room branches otherwise) waits state = choice_end_same room branches otherwise waits state code text
-  end_same code text (ForBody room turning) waits state = body_end_same room turning waits state code text
-  end_same code text (ForNext room turning) waits state = next_end_same room turning waits state code text
-  end_same code text (ForStart room turning) waits state = start_end_same room turning waits state code text
+  end_same code text (ForBody room looping) waits state = body_end_same room looping waits state code text
+  end_same code text (ForNext room looping) waits state = next_end_same room looping waits state code text
+  end_same code text (ForStart room looping) waits state = start_end_same room looping waits state code text
   end_same code text (ForCatch name) waits state = refl
   end_same code text (ForLevels levels) waits state = refl
   end_same code text ForProcedure waits state = refl
@@ -369,7 +370,7 @@ module _ {S K : Type 0} (outside : Outside S K) where
   moves_same_by store context (Evaluates room evaluation given) waits n state e =
       evaluation_same room evaluation given waits (record state { store = store; context = context }) n.moved e.0 ∙ stays n store context state e.1 e.2
   moves_same_by store context (Calls room words) waits n state e = ap (λ x. finish_standing x state) (sym e)
-  moves_same_by store context (Tests room turning) waits n state e = ap (λ x. finish_standing x state) (sym e)
+  moves_same_by store context (Tests room looping) waits n state e = ap (λ x. finish_standing x state) (sym e)
   moves_same_by store context (Steps room task) waits n state e = ap (λ x. finish_standing x state) (sym e)
   moves_same_by store context (Resumes room task code text) waits n state e = ap (λ x. finish_standing x state) (sym e)
   moves_same_by store context (Ends code text) [] n state e = ap (λ x. finish_standing x state) (sym e)

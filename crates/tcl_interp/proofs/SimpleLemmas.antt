@@ -24,7 +24,8 @@ use Rattle.tcl_control.specs.Texts.{limit_text}
 use Rattle.tcl_interp.specs.Outside.{Outside}
 use Rattle.tcl_interp.specs.Evaluation.{State, Outcome, Ended, OutOfSteps, and_then, on_normal, words_of, on_words, index_depth, word_meaning, words_meaning, called, commands_meaning}
 use Rattle.tcl_interp.specs.Expressions.{expression_meaning}
-use Rattle.tcl_interp.specs.Scripts.{script_meaning, call_meaning, called_meaning, on_parsed}
+use Rattle.tcl_interp.specs.Acts.{script_meaning, outside_meaning}
+use Rattle.tcl_interp.specs.Scripts.{call_meaning, called_meaning, on_parsed}
 use Rattle.tcl_interp.specs.Finish.{GoesOn, Calls, Ends, Waiting, ForCommand, waits_meaning}
 use Rattle.tcl_interp.specs.Moves.{Standing, word_end, moved, standing, expression_begins, after_command}
 use Rattle.tcl_interp.specs.Openings.{IsInteger}
@@ -68,7 +69,7 @@ on_err (Err fault) Q holds = holds
 
 module _ {S K : Type 0} (outside : Outside S K) where
   abbrev calls_in : ℕ → List (List ℕ) → State S → Outcome S
-  calls_in room = call_meaning outside (run_in outside room)
+  calls_in room = call_meaning (outside_meaning outside) (run_in outside room)
 
   -- ── words ──
 
@@ -160,8 +161,8 @@ module _ {S K : Type 0} (outside : Outside S K) where
       let state = state_with shows store context left in
       at_once room store context (w ∷ v ∷ []) (v ∷ []) [] (name ∷ []) (word_leads_suc room (w ∷ v ∷ []) 0 store context 0 name [] (omega arith) (written_gives room (w ∷ v ∷ []) store context name written short)) shows (suc left) (called run (calls_in room))
       ∙ at_once room store context (v ∷ []) [] (name ∷ []) (name ∷ argument ∷ []) (word_leads_suc room (v ∷ []) 0 store context 0 argument (name ∷ []) (omega arith) (written_gives room (v ∷ []) store context argument written' short')) shows (suc left) (called run (calls_in room))
-      ∙ ap (λ c. called_meaning outside run name (argument ∷ []) state (by_command name (argument ∷ []) store context c)) binding
-      ∙ ap (λ a. called_meaning outside run name (argument ∷ []) state (keeps_all store context (on_joined plan.Evaluates a))) joined
+      ∙ ap (λ c. called_meaning (outside_meaning outside) run name (argument ∷ []) state (by_command name (argument ∷ []) store context c)) binding
+      ∙ ap (λ a. called_meaning (outside_meaning outside) run name (argument ∷ []) state (keeps_all store context (on_joined plan.Evaluates a))) joined
       ∙ expression_gives room level store context text n at_level integer shows left
       ∙ ap (Ended state Normal) (sym is)
 

@@ -7,24 +7,25 @@ use Rattle.tcl_control.specs.declared.context.Context.{Context}
 use Rattle.tcl_control.specs.declared.control.Call.TheVariants as call
 use Rattle.tcl_control.specs.declared.plan.Plan.{Plan}
 use Rattle.tcl_control.specs.declared.plan.Plan.TheVariants as plan
-use Rattle.tcl_control.specs.declared.turns.Test.{Test}
-use Rattle.tcl_control.specs.declared.turns.Test.TheVariants.{Holds, Items}
-use Rattle.tcl_control.specs.declared.turns.Turning.{Turning}
+use Rattle.tcl_control.specs.declared.loops.Test.{Test}
+use Rattle.tcl_control.specs.declared.loops.Test.TheVariants.{Holds, Items}
+use Rattle.tcl_control.specs.declared.loops.Loop.{Loop}
 use Rattle.tcl_control.specs.Control.{Called, call_of}
 use Rattle.tcl_control.specs.Levels.{here}
-use Rattle.tcl_control.specs.Turns.{Tested, More, NoMore, Fails, items_tested}
+use Rattle.tcl_control.specs.Loops.{Tested, More, NoMore, Fails, items_tested}
 use Rattle.tcl_interp.specs.declared.tasks.Act.{Act}
 use Rattle.tcl_interp.specs.declared.tasks.Act.TheVariants.{Done, Step, Run, Unknown}
 use Rattle.tcl_interp.specs.Outside.{Outside, Told, Falls, RunsBelow}
 use Rattle.tcl_interp.specs.Evaluation.{State, Outcome, OutOfSteps, and_then, on_normal}
-use Rattle.tcl_interp.specs.Plans.{cut, others, levels_back, procedure_ended, caught, on_tested, loop_ended, after_body, run_at, next_turn, test_meaning, turn_meaning, turns_meaning, loop_meaning, plan_meaning}
+use Rattle.tcl_interp.specs.Plans.{with_first_levels, others, levels_back, procedure_ended, caught, on_tested, loop_ended, after_body, run_at, next_iteration, test_meaning, iteration_meaning, iterations_meaning, loop_meaning, plan_meaning}
 use Rattle.tcl_interp.specs.Expressions.{on_value, if_holds, expression_meaning}
-use Rattle.tcl_interp.specs.Scripts.{out_of_global, told_state, resumed, after_step, task_meaning, act_meaning, called_meaning}
-use Rattle.tcl_interp.specs.Finish.{Calls, Tests, Steps, Resumes, Waiting, ForTest, loop_rest, turn_rest, waits_meaning}
+use Rattle.tcl_interp.specs.Acts.{told_state, resumed, after_step, task_meaning, act_meaning, outside_meaning}
+use Rattle.tcl_interp.specs.Scripts.{out_of_global, called_meaning}
+use Rattle.tcl_interp.specs.Finish.{Calls, Tests, Steps, Resumes, Waiting, ForTest, loop_rest, iteration_rest, waits_meaning}
 use Rattle.tcl_interp.specs.Moves.{Standing, moved, standing, plan_move, items_move, test_move, act_move}
 use Rattle.tcl_interp.specs.Steps.{state_with, finish_from, TakesStep, TakesNone, Resumed}
 use Rattle.tcl_interp.specs.Quiet.{Leads}
-use Rattle.tcl_interp.proofs.Bounds.{and_then_same, on_value_same, if_same, turn_same, turns_same, within_expression, resumed_same, after_step_same, on_act_same, within_script}
+use Rattle.tcl_interp.proofs.Bounds.{and_then_same, on_value_same, if_same, iteration_same, iterations_same, within_expression, resumed_same, after_step_same, on_act_same, within_script}
 use Rattle.tcl_interp.proofs.Same.{and_then_assoc, finish_standing, run_in, expression_same, choice_same, leads_same}
 use Rattle.tcl_interp.proofs.Weights.{tasks, waits_tasks}
 
@@ -35,9 +36,9 @@ module _ {S K : Type 0} (outside : Outside S K) where
 
   run_at_same : (room count : ℕ) (script : List ℕ) (state : State S) (after : State S → Code → List ℕ → Outcome S)
       → and_then (run_at (run_in outside room) count script state) after
-      ≡ and_then (run_in outside room script (record state { context = cut count state.context })) (λ state' code text. and_then (levels_back (others count state.context) state' code text) after)
+      ≡ and_then (run_in outside room script (record state { context = with_first_levels count state.context })) (λ state' code text. and_then (levels_back (others count state.context) state' code text) after)
   run_at_same room count script state after =
-      and_then_assoc (run_in outside room script (record state { context = cut count state.context })) (levels_back (others count state.context)) after
+      and_then_assoc (run_in outside room script (record state { context = with_first_levels count state.context })) (levels_back (others count state.context)) after
 
   pub act_same : (room : ℕ) (name : List ℕ) (waits : List (Waiting K)) (state : State S) (act : Act K)
       → and_then (act_meaning outside (run_in outside room) name state act) (waits_meaning outside waits) ≡ finish_standing outside (act_move room name state.store state.context waits act) state
@@ -57,71 +58,71 @@ module _ {S K : Type 0} (outside : Outside S K) where
   plan_same room waits state (plan.Enters body) = and_then_assoc (run_in outside room body state) procedure_ended (waits_meaning outside waits)
   plan_same room waits state (plan.Evaluates expression) = expression_same outside room expression waits state
   plan_same room waits state (plan.Chooses choices) = choice_same outside room choices.branches choices.otherwise waits state
-  plan_same room waits state (plan.Turns turning) = refl
-  plan_same room waits state (plan.Starts script turning) =
-      and_then_assoc (run_in outside room script state) (on_normal (λ state' text. loop_meaning (run_in outside room) turning state')) (waits_meaning outside waits)
+  plan_same room waits state (plan.Loops looping) = refl
+  plan_same room waits state (plan.Starts script looping) =
+      and_then_assoc (run_in outside room script state) (on_normal (λ state' text. loop_meaning (run_in outside room) looping state')) (waits_meaning outside waits)
 
   -- a task is due its step: it is resumed after it
   pub step_same : (room : ℕ) (task : K) (waits : List (Waiting K)) (shows : S) (store : Store) (context : Context) → TakesStep outside (standing (moved (Steps room task) waits) store context) shows (standing (moved (Resumes room task Normal []) waits) store context) shows
   step_same room task waits shows store context left = refl
 
-  -- the body of a loop, and what comes after it, with as many turns as there are steps
-  turn_rest_same : (room : ℕ) (turning : Turning) (test : Test) (left : ℕ) (state : State S) → state.steps ≤ left
-      → turn_meaning (run_in outside room) turning (turns_meaning (run_in outside room) (record turning { test = test }) left) state ≡ turn_rest outside room (record turning { test = test }) state
-  turn_rest_same room turning test left state le =
+  -- the body of a loop, and what comes after it, with as many iterations as there are steps
+  iteration_rest_same : (room : ℕ) (looping : Loop) (test : Test) (left : ℕ) (state : State S) → state.steps ≤ left
+      → iteration_meaning (run_in outside room) looping (iterations_meaning (run_in outside room) (record looping { test = test }) left) state ≡ iteration_rest outside room (record looping { test = test }) state
+  iteration_rest_same room looping test left state le =
       let run : List ℕ → State S → Outcome S = run_in outside room in
-      let next : Turning = record turning { test = test } in
-      turn_same run (within_script outside room) turning (turns_meaning run next left) (loop_rest outside room next) state
-      (λ state' le'. turns_same run (within_script outside room) next left state'.steps state' (omega arith) (omega arith))
+      let next : Loop = record looping { test = test } in
+      iteration_same run (within_script outside room) looping (iterations_meaning run next left) (loop_rest outside room next) state
+      (λ state' le'. iterations_same run (within_script outside room) next left state'.steps state' (omega arith) (omega arith))
 
-  on_tested_cases : (room : ℕ) (turning : Turning) (waits : List (Waiting K)) (left : ℕ) (state : State S) (test : Tested) → state.steps ≤ left
-      → and_then (on_tested state (λ groups. turn_meaning (run_in outside room) turning (turns_meaning (run_in outside room) (record turning { test = Items groups }) left)) test) (waits_meaning outside waits)
-      ≡ finish_standing outside (items_move room turning state.context waits test) state
-  on_tested_cases room turning waits left state (More store groups) le =
+  on_tested_cases : (room : ℕ) (looping : Loop) (waits : List (Waiting K)) (left : ℕ) (state : State S) (test : Tested) → state.steps ≤ left
+      → and_then (on_tested state (λ groups. iteration_meaning (run_in outside room) looping (iterations_meaning (run_in outside room) (record looping { test = Items groups }) left)) test) (waits_meaning outside waits)
+      ≡ finish_standing outside (items_move room looping state.context waits test) state
+  on_tested_cases room looping waits left state (More store groups) le =
       let run : List ℕ → State S → Outcome S = run_in outside room in
-      let next : Turning = record turning { test = Items groups } in
-      ap (λ o. and_then o (waits_meaning outside waits)) (turn_rest_same room turning (Items groups) left (record state { store = store }) le)
-      ∙ and_then_assoc (run turning.body (record state { store = store })) (after_body (next_turn run turning.next (loop_rest outside room next))) (waits_meaning outside waits)
-  on_tested_cases room turning waits left state (NoMore store) le = refl
-  on_tested_cases room turning waits left state (Fails store text) le = refl
+      let next : Loop = record looping { test = Items groups } in
+      ap (λ o. and_then o (waits_meaning outside waits)) (iteration_rest_same room looping (Items groups) left (record state { store = store }) le)
+      ∙ and_then_assoc (run looping.body (record state { store = store })) (after_body (next_iteration run looping.next (loop_rest outside room next))) (waits_meaning outside waits)
+  on_tested_cases room looping waits left state (NoMore store) le = refl
+  on_tested_cases room looping waits left state (Fails store text) le = refl
 
-  holds_same : (room : ℕ) (turning : Turning) (condition : List ℕ) (waits : List (Waiting K)) (left : ℕ) (state : State S) → state.steps ≤ left → turning.test ≡ Holds condition
-      → and_then (test_meaning (run_in outside room) (Holds condition) (λ test. turn_meaning (run_in outside room) turning (turns_meaning (run_in outside room) (record turning { test = test }) left)) state) (waits_meaning outside waits)
-      ≡ finish_standing outside (test_move room turning state.store state.context waits (Holds condition)) state
-  holds_same room turning condition waits left state le is =
+  holds_same : (room : ℕ) (looping : Loop) (condition : List ℕ) (waits : List (Waiting K)) (left : ℕ) (state : State S) → state.steps ≤ left → looping.test ≡ Holds condition
+      → and_then (test_meaning (run_in outside room) (Holds condition) (λ test. iteration_meaning (run_in outside room) looping (iterations_meaning (run_in outside room) (record looping { test = test }) left)) state) (waits_meaning outside waits)
+      ≡ finish_standing outside (test_move room looping state.store state.context waits (Holds condition)) state
+  holds_same room looping condition waits left state le is =
       let run : List ℕ → State S → Outcome S = run_in outside room in
-      let next : Turning = record turning { test = Holds condition } in
-      let again : State S → Outcome S = turn_meaning run turning (turns_meaning run next left) in
+      let next : Loop = record looping { test = Holds condition } in
+      let again : State S → Outcome S = iteration_meaning run looping (iterations_meaning run next left) in
       ap (λ o. and_then o (waits_meaning outside waits))
-      (and_then_same left (expression_meaning run condition state) (on_value (if_holds again loop_ended)) (on_value (if_holds (turn_rest outside room next) loop_ended)) (within_expression run (within_script outside room) left condition state le)
-      (λ state' code text le'. on_value_same (if_holds again loop_ended) (if_holds (turn_rest outside room next) loop_ended) state' code text
-      (λ holds. if_same again (turn_rest outside room next) loop_ended state' holds (turn_rest_same room turning (Holds condition) left state' le'))))
-      ∙ and_then_assoc (expression_meaning run condition state) (on_value (if_holds (turn_rest outside room next) loop_ended)) (waits_meaning outside waits)
+      (and_then_same left (expression_meaning run condition state) (on_value (if_holds again loop_ended)) (on_value (if_holds (iteration_rest outside room next) loop_ended)) (within_expression run (within_script outside room) left condition state le)
+      (λ state' code text le'. on_value_same (if_holds again loop_ended) (if_holds (iteration_rest outside room next) loop_ended) state' code text
+      (λ holds. if_same again (iteration_rest outside room next) loop_ended state' holds (iteration_rest_same room looping (Holds condition) left state' le'))))
+      ∙ and_then_assoc (expression_meaning run condition state) (on_value (if_holds (iteration_rest outside room next) loop_ended)) (waits_meaning outside waits)
       ∙ expression_same outside room condition (ForTest room next ∷ waits) state
-      ∙ ap (λ test. finish_standing outside (test_move room (record turning { test = test }) state.store state.context waits (Holds condition)) state) (sym is)
+      ∙ ap (λ test. finish_standing outside (test_move room (record looping { test = test }) state.store state.context waits (Holds condition)) state) (sym is)
 
-  test_cases : (room : ℕ) (turning : Turning) (waits : List (Waiting K)) (left : ℕ) (state : State S) (test : Test) → state.steps ≤ left → turning.test ≡ test
-      → and_then (test_meaning (run_in outside room) test (λ after. turn_meaning (run_in outside room) turning (turns_meaning (run_in outside room) (record turning { test = after }) left)) state) (waits_meaning outside waits)
-      ≡ finish_standing outside (test_move room turning state.store state.context waits test) state
-  test_cases room turning waits left state (Holds condition) le is = holds_same room turning condition waits left state le is
-  test_cases room turning waits left state (Items groups) le is = on_tested_cases room turning waits left state (items_tested (here state.context.levels state.store) groups state.store) le
+  test_cases : (room : ℕ) (looping : Loop) (waits : List (Waiting K)) (left : ℕ) (state : State S) (test : Test) → state.steps ≤ left → looping.test ≡ test
+      → and_then (test_meaning (run_in outside room) test (λ after. iteration_meaning (run_in outside room) looping (iterations_meaning (run_in outside room) (record looping { test = after }) left)) state) (waits_meaning outside waits)
+      ≡ finish_standing outside (test_move room looping state.store state.context waits test) state
+  test_cases room looping waits left state (Holds condition) le is = holds_same room looping condition waits left state le is
+  test_cases room looping waits left state (Items groups) le is = on_tested_cases room looping waits left state (items_tested (here state.context.levels state.store) groups state.store) le
 
   -- the test of a loop
-  pub test_same : (room : ℕ) (turning : Turning) (waits : List (Waiting K)) (shows : S) (store : Store) (context : Context)
-      → TakesStep outside (standing (moved (Tests room turning) waits) store context) shows (test_move room turning store context waits turning.test) shows
-  test_same room turning waits shows store context left = test_cases room turning waits left (state_with shows store context left) turning.test (omega arith) refl
+  pub test_same : (room : ℕ) (looping : Loop) (waits : List (Waiting K)) (shows : S) (store : Store) (context : Context)
+      → TakesStep outside (standing (moved (Tests room looping) waits) store context) shows (test_move room looping store context waits looping.test) shows
+  test_same room looping waits shows store context left = test_cases room looping waits left (state_with shows store context left) looping.test (omega arith) refl
 
-  pub test_given : (room : ℕ) (turning : Turning) (waits : List (Waiting K)) (shows : S) (store : Store) (context : Context) (after : Standing K) → Leads (test_move room turning store context waits turning.test) after
-      → TakesStep outside (standing (moved (Tests room turning) waits) store context) shows after shows
-  test_given room turning waits shows store context after leads left =
-      test_same room turning waits shows store context left ∙ leads_none (test_move room turning store context waits turning.test) after shows leads left
+  pub test_given : (room : ℕ) (looping : Loop) (waits : List (Waiting K)) (shows : S) (store : Store) (context : Context) (after : Standing K) → Leads (test_move room looping store context waits looping.test) after
+      → TakesStep outside (standing (moved (Tests room looping) waits) store context) shows after shows
+  test_given room looping waits shows store context after leads left =
+      test_same room looping waits shows store context left ∙ leads_none (test_move room looping store context waits looping.test) after shows leads left
 
   -- a command is called, and what is to be done is this
   calls_as : (room : ℕ) (name : List ℕ) (arguments : List (List ℕ)) (waits : List (Waiting K)) (shows : S) (store : Store) (context : Context) (called : Called) (left : ℕ) → called ≡ call_of name arguments store context
       → finish_from outside (standing (moved (Calls room (name ∷ arguments)) waits) store context) shows (suc left)
-      ≡ and_then (called_meaning outside (run_in outside room) name arguments (state_with shows store context left) called) (waits_meaning outside waits)
+      ≡ and_then (called_meaning (outside_meaning outside) (run_in outside room) name arguments (state_with shows store context left) called) (waits_meaning outside waits)
   calls_as room name arguments waits shows store context called left e =
-      ap (λ c. and_then (called_meaning outside (run_in outside room) name arguments (state_with shows store context left) c) (waits_meaning outside waits)) (sym e)
+      ap (λ c. and_then (called_meaning (outside_meaning outside) (run_in outside room) name arguments (state_with shows store context left) c) (waits_meaning outside waits)) (sym e)
 
   pub call_plan : (room : ℕ) (name : List ℕ) (arguments : List (List ℕ)) (waits : List (Waiting K)) (shows : S) (store : Store) (context : Context) (store' : Store) (context' : Context) (p : Plan) (after : Standing K)
       → record { store = store'; context = context'; call = call.Plans p } ≡ call_of name arguments store context → Leads (plan_move room store' context' waits p) after

@@ -20,13 +20,13 @@ use Rattle.tcl_expr.specs.Resuming.{Resumption, evaluation_told, is_waiting}
 use Rattle.tcl_expr.proofs.StraightLemmas.{goes, begins_ready}
 use Rattle.tcl_control.specs.declared.code.Code.TheVariants.{Normal}
 use Rattle.tcl_control.specs.declared.context.Context.{Context}
-use Rattle.tcl_control.specs.declared.turns.Turning.{Turning}
-use Rattle.tcl_control.specs.declared.turns.Test.TheVariants.{Holds}
+use Rattle.tcl_control.specs.declared.loops.Loop.{Loop}
+use Rattle.tcl_control.specs.declared.loops.Test.TheVariants.{Holds}
 use Rattle.tcl_control.specs.Expressions.{truth_of_text, truth_or_text}
 use Rattle.tcl_control.specs.Levels.{here}
 use Rattle.tcl_commands.specs.declared.branches.Branch.{Branch}
 use Rattle.tcl_interp.specs.Finish.{Evaluates, Ends, Waiting, ForTest, ForChoice}
-use Rattle.tcl_interp.specs.Moves.{Standing, moved, standing, value_given, begun_as, expression_begins, choice_move, chosen_move, turn_move, test_move, end_move}
+use Rattle.tcl_interp.specs.Moves.{Standing, moved, standing, value_given, begun_as, expression_begins, choice_move, chosen_move, iteration_move, test_move, end_move}
 use Rattle.tcl_interp.specs.Openings.{IsInteger, Knows}
 use Rattle.tcl_interp.specs.Quiet.{Moves, Leads, MovesOn}
 use Rattle.tcl_interp.proofs.Weights.{leads_on}
@@ -102,13 +102,13 @@ condition_leads store context room waiting waits text level n at_level is =
     leads_on _ (standing (moved (Ends Normal (signed_decimal n)) (waiting ∷ waits)) store context) _ (opened_leads store context room (waiting ∷ waits) text level n at_level is) refl
 
 -- the condition of a loop
-pub test_leads : {K : Type 0} (store : Store) (context : Context) (room : ℕ) (turning : Turning) (waits : List (Waiting K)) (text : List ℕ) (level : ℕ) (holds : Bool)
-    → level ≡ here context.levels store → turning.test ≡ Holds text → Knows store level text holds
-    → Leads (test_move room turning store context waits turning.test) (standing (turn_move room turning waits (Ok holds)) store context)
-test_leads store context room turning waits text level holds at_level is (n, integer, truth) =
-    subst (λ test. Leads (test_move room turning store context waits test) (standing (turn_move room turning waits (Ok holds)) store context)) (sym is)
-    (subst (λ value. Leads (test_move room turning store context waits (Holds text)) (standing (turn_move room turning waits value) store context)) truth
-    (condition_leads store context room (ForTest room turning) waits text level n at_level integer))
+pub test_leads : {K : Type 0} (store : Store) (context : Context) (room : ℕ) (looping : Loop) (waits : List (Waiting K)) (text : List ℕ) (level : ℕ) (holds : Bool)
+    → level ≡ here context.levels store → looping.test ≡ Holds text → Knows store level text holds
+    → Leads (test_move room looping store context waits looping.test) (standing (iteration_move room looping waits (Ok holds)) store context)
+test_leads store context room looping waits text level holds at_level is (n, integer, truth) =
+    subst (λ test. Leads (test_move room looping store context waits test) (standing (iteration_move room looping waits (Ok holds)) store context)) (sym is)
+    (subst (λ value. Leads (test_move room looping store context waits (Holds text)) (standing (iteration_move room looping waits value) store context)) truth
+    (condition_leads store context room (ForTest room looping) waits text level n at_level integer))
 
 -- the first condition of `if`
 first_choice_leads : {K : Type 0} (store : Store) (context : Context) (room : ℕ) (branch : Branch) (branches : List Branch) (otherwise : Option (List ℕ)) (waits : List (Waiting K)) (level : ℕ) (holds : Bool)

@@ -7,7 +7,8 @@ use Rattle.tcl_control.specs.declared.context.Context.{Context}
 use Rattle.tcl_interp.specs.Outside.{Outside}
 use Rattle.tcl_interp.specs.Evaluation.{State, Outcome, OutOfSteps, and_then}
 use Rattle.tcl_interp.specs.Plans.{run_at}
-use Rattle.tcl_interp.specs.Scripts.{script_meaning, out_of_global, at_global, on_act, after_step, act_meaning, task_meaning}
+use Rattle.tcl_interp.specs.Acts.{script_meaning, on_act, after_step, act_meaning, task_meaning}
+use Rattle.tcl_interp.specs.Scripts.{out_of_global, at_global}
 use Rattle.tcl_interp.proofs.Bounds.{Bounded, and_then_same, stepped_same, within_run_at, within_script, after_step_same}
 use Rattle.tcl_interp.specs.declared.job.Looked.{Looked}
 use Rattle.tcl_interp.specs.declared.job.Looked.TheVariants.{Wants, Ends}
@@ -36,17 +37,17 @@ module _ {S J : Type 0} (course : Course S J) (calls : Calls S J) (room : ℕ) w
   run_falls : Bounded run
   run_falls = within_script outside room
 
-  -- how a task goes on after a step, in so many turns
+  -- how a task goes on after a step, in so many iterations
   abbrev on_step : ℕ → Task J → State S → Outcome S
-  on_step turns = after_step outside run turns
+  on_step iterations = after_step outside run iterations
 
-  -- what was looked for comes to the same whatever bounds its turns, and runs no script by itself
-  act_same : (turns : ℕ) (found : Looked J) (state : State S) → state.steps ≤ turns
-      → on_act run (on_step turns) (λ _ state' _ _. OutOfSteps state') [] state (act_of found) ≡ act_meaning outside run [] state (act_of found)
-  act_same turns (Ends code text) state le = refl
-  act_same turns (Wants job) state le =
-      stepped_same state.steps state (on_step turns (Waits job)) (on_step state.steps (Waits job))
-      (λ state' less. after_step_same outside run run_falls (jobs_fall course calls) turns state.steps (Waits job) state' (omega arith) less)
+  -- what was looked for comes to the same whatever bounds its iterations, and runs no script by itself
+  act_same : (iterations : ℕ) (found : Looked J) (state : State S) → state.steps ≤ iterations
+      → on_act run (on_step iterations) (λ _ state' _ _. OutOfSteps state') [] state (act_of found) ≡ act_meaning outside run [] state (act_of found)
+  act_same iterations (Ends code text) state le = refl
+  act_same iterations (Wants job) state le =
+      stepped_same state.steps state (on_step iterations (Waits job)) (on_step state.steps (Waits job))
+      (λ state' less. after_step_same outside run run_falls (jobs_fall course calls) iterations state.steps (Waits job) state' (omega arith) less)
 
   by_look : (found : Looked J) (shows : S) (store : Store) (context : Context) (steps : ℕ)
       → act_meaning outside run [] (state_with shows store context steps) (act_of found) ≡ looked course run meaning found (state_with shows store context steps)

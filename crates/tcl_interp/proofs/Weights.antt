@@ -10,7 +10,7 @@ use Rattle.tcl_text.specs.declared.fault.ReadFault.{ReadFault}
 use Rattle.tcl_control.specs.declared.code.Code.{Code}
 use Rattle.tcl_control.specs.declared.code.Code.TheVariants.{Normal, Error, Return, Break, Continue}
 use Rattle.tcl_control.specs.declared.context.Context.{Context}
-use Rattle.tcl_control.specs.declared.turns.Turning.{Turning}
+use Rattle.tcl_control.specs.declared.loops.Loop.{Loop}
 use Rattle.tcl_control.specs.Expressions.{truth_of_text}
 use Rattle.tcl_control.specs.ExpressionForms.{evaluation_begins}
 use Rattle.tcl_commands.specs.declared.branches.Branch.{Branch}
@@ -28,7 +28,7 @@ use Rattle.tcl_control.specs.Texts.{limit_text, element_name}
 use Rattle.tcl_interp.specs.Evaluation.{index_pieces, index_depth, words_of}
 use Rattle.tcl_interp.specs.Scripts.{out_of_global}
 use Rattle.tcl_interp.specs.Finish.{Wording, Indexing, Doing, Begins, GoesOn, Indexes, Evaluates, Calls, Tests, Steps, Resumes, Ends, Waiting, ForCommand, ForPart, ForIndex, ForValue, ForTest, ForChoice, ForBody, ForNext, ForStart, ForCatch, ForLevels, ForProcedure, ForScript, ForAll}
-use Rattle.tcl_interp.specs.Moves.{Moved, Standing, Part, Script, ElementOf, variable_value, WordEnd, Whole, Failed, AtPart, join_end, piece_end, word_end, with_more_words, moved, more_move, index_begins, part_begins, word_move, words_move, element_end, index_move, indexes_move, parsed_move, begin_move, go_on_move, after_command, part_move, after_part, after_index, begun_as, value_given, asked_move, answer_move, otherwise_move, choice_move, after_value_move, turn_move, after_test_move, chosen_move, after_choice_move, next_move, after_body_move, after_next_move, after_start_move, global_end, end_move}
+use Rattle.tcl_interp.specs.Moves.{Moved, Standing, Part, Script, ElementOf, variable_value, WordEnd, Whole, Failed, AtPart, join_end, piece_end, word_end, with_more_words, moved, more_move, index_begins, part_begins, word_move, words_move, element_end, index_move, indexes_move, parsed_move, begin_move, go_on_move, after_command, part_move, after_part, after_index, begun_as, value_given, asked_move, answer_move, otherwise_move, choice_move, after_value_move, iteration_move, after_test_move, chosen_move, after_choice_move, next_move, after_body_move, after_next_move, after_start_move, global_end, end_move}
 use Rattle.tcl_interp.specs.Quiet.{EvaluationMoves, MovesBy, Moves, LeadsBy, Leads, IsQuietBy, IsQuiet}
 use Rattle.tcl_interp.proofs.Same.{begin_some, element_begins_some}
 
@@ -152,7 +152,7 @@ module _ {K : Type 0} where
   doing_weight (Indexes x) = 2 + pieces_weight (script_weight x.room) (element_weight (script_weight x.room) x.depth) x.pieces
   doing_weight (Evaluates room evaluation given) = evaluation_weight room evaluation
   doing_weight (Calls room words) = 0
-  doing_weight (Tests room turning) = 0
+  doing_weight (Tests room looping) = 0
   doing_weight (Steps room task) = 0
   doing_weight (Resumes room task code text) = 0
   doing_weight (Ends code text) = 1
@@ -162,11 +162,11 @@ module _ {K : Type 0} where
   waiting_weight (ForIndex x) = 2 + pieces_weight (script_weight x.room) (element_weight (script_weight x.room) x.depth) x.pieces
   waiting_weight (ForPart w) = 3 + (word_weight (script_weight w.room) w.pieces + (words_weight (script_weight w.room) w.words + commands_weight (script_weight w.room) w.after))
   waiting_weight (ForValue room evaluation) = evaluation_weight room evaluation
-  waiting_weight (ForTest room turning) = 2 + (script_weight room turning.body + next_weight (script_weight room) turning.next)
+  waiting_weight (ForTest room looping) = 2 + (script_weight room looping.body + next_weight (script_weight room) looping.next)
   waiting_weight (ForChoice room branches otherwise) = choice_weight room branches otherwise
-  waiting_weight (ForBody room turning) = 2 + next_weight (script_weight room) turning.next
-  waiting_weight (ForNext room turning) = 1
-  waiting_weight (ForStart room turning) = 1
+  waiting_weight (ForBody room looping) = 2 + next_weight (script_weight room) looping.next
+  waiting_weight (ForNext room looping) = 1
+  waiting_weight (ForStart room looping) = 1
   waiting_weight (ForCatch name) = 1
   waiting_weight (ForLevels levels) = 1
   waiting_weight ForProcedure = 1
@@ -284,10 +284,10 @@ module _ {K : Type 0} where
   answer_lighter level store room before after waits (Ok asked) by = asked_lighter level store room before after waits asked by
   answer_lighter level store room before after waits (Err fault) by = omega arith
 
-  turn_lighter : (room : ℕ) (turning : Turning) (waits : List (Waiting K)) (truth : Result Bool (List ℕ)) → weight (turn_move room turning waits truth) < 1 + ((2 + (script_weight room turning.body + next_weight (script_weight room) turning.next)) + waits_weight waits)
-  turn_lighter room turning waits (Ok true) = omega arith
-  turn_lighter room turning waits (Ok false) = omega arith
-  turn_lighter room turning waits (Err text) = omega arith
+  iteration_lighter : (room : ℕ) (looping : Loop) (waits : List (Waiting K)) (truth : Result Bool (List ℕ)) → weight (iteration_move room looping waits truth) < 1 + ((2 + (script_weight room looping.body + next_weight (script_weight room) looping.next)) + waits_weight waits)
+  iteration_lighter room looping waits (Ok true) = omega arith
+  iteration_lighter room looping waits (Ok false) = omega arith
+  iteration_lighter room looping waits (Err text) = omega arith
 
   chosen_lighter : (room : ℕ) (branches : List Branch) (otherwise : Option (List ℕ)) (waits : List (Waiting K)) (truth : Result Bool (List ℕ)) → weight (chosen_move room branches otherwise waits truth) < 1 + (choice_weight room branches otherwise + waits_weight waits)
   chosen_lighter room [] otherwise waits (Ok holds) = omega (arith, otherwise_light room otherwise waits)
@@ -296,30 +296,30 @@ module _ {K : Type 0} where
   chosen_lighter room (branch ∷ branches) otherwise waits (Ok false) = omega (arith, choice_light room branches otherwise waits)
   chosen_lighter room (branch ∷ branches) otherwise waits (Err text) = omega arith
 
-  next_lighter : (room : ℕ) (turning : Turning) (waits : List (Waiting K)) (next : Option (List ℕ)) → weight (next_move room turning waits next) ≤ 1 + (next_weight (script_weight room) next + waits_weight waits)
-  next_lighter room turning waits None = omega arith
-  next_lighter room turning waits (Some script) = omega arith
+  next_lighter : (room : ℕ) (looping : Loop) (waits : List (Waiting K)) (next : Option (List ℕ)) → weight (next_move room looping waits next) ≤ 1 + (next_weight (script_weight room) next + waits_weight waits)
+  next_lighter room looping waits None = omega arith
+  next_lighter room looping waits (Some script) = omega arith
 
-  body_lighter : (room : ℕ) (turning : Turning) (waits : List (Waiting K)) (code : Code) (text : List ℕ) → weight (after_body_move room turning waits code text) < 1 + ((2 + next_weight (script_weight room) turning.next) + waits_weight waits)
-  body_lighter room turning waits Normal text = omega (arith, next_lighter room turning waits turning.next)
-  body_lighter room turning waits Error text = omega arith
-  body_lighter room turning waits (Return code) text = omega arith
-  body_lighter room turning waits Break text = omega arith
-  body_lighter room turning waits Continue text = omega (arith, next_lighter room turning waits turning.next)
+  body_lighter : (room : ℕ) (looping : Loop) (waits : List (Waiting K)) (code : Code) (text : List ℕ) → weight (after_body_move room looping waits code text) < 1 + ((2 + next_weight (script_weight room) looping.next) + waits_weight waits)
+  body_lighter room looping waits Normal text = omega (arith, next_lighter room looping waits looping.next)
+  body_lighter room looping waits Error text = omega arith
+  body_lighter room looping waits (Return code) text = omega arith
+  body_lighter room looping waits Break text = omega arith
+  body_lighter room looping waits Continue text = omega (arith, next_lighter room looping waits looping.next)
 
-  after_next_lighter : (room : ℕ) (turning : Turning) (waits : List (Waiting K)) (code : Code) (text : List ℕ) → weight (after_next_move room turning waits code text) < 1 + (1 + waits_weight waits)
-  after_next_lighter room turning waits Normal text = omega arith
-  after_next_lighter room turning waits Error text = omega arith
-  after_next_lighter room turning waits (Return code) text = omega arith
-  after_next_lighter room turning waits Break text = omega arith
-  after_next_lighter room turning waits Continue text = omega arith
+  after_next_lighter : (room : ℕ) (looping : Loop) (waits : List (Waiting K)) (code : Code) (text : List ℕ) → weight (after_next_move room looping waits code text) < 1 + (1 + waits_weight waits)
+  after_next_lighter room looping waits Normal text = omega arith
+  after_next_lighter room looping waits Error text = omega arith
+  after_next_lighter room looping waits (Return code) text = omega arith
+  after_next_lighter room looping waits Break text = omega arith
+  after_next_lighter room looping waits Continue text = omega arith
 
-  start_lighter : (room : ℕ) (turning : Turning) (waits : List (Waiting K)) (code : Code) (text : List ℕ) → weight (after_start_move room turning waits code text) < 1 + (1 + waits_weight waits)
-  start_lighter room turning waits Normal text = omega arith
-  start_lighter room turning waits Error text = omega arith
-  start_lighter room turning waits (Return code) text = omega arith
-  start_lighter room turning waits Break text = omega arith
-  start_lighter room turning waits Continue text = omega arith
+  start_lighter : (room : ℕ) (looping : Loop) (waits : List (Waiting K)) (code : Code) (text : List ℕ) → weight (after_start_move room looping waits code text) < 1 + (1 + waits_weight waits)
+  start_lighter room looping waits Normal text = omega arith
+  start_lighter room looping waits Error text = omega arith
+  start_lighter room looping waits (Return code) text = omega arith
+  start_lighter room looping waits Break text = omega arith
+  start_lighter room looping waits Continue text = omega arith
 
   global_lighter : (waits : List (Waiting K)) (code : Code) (text : List ℕ) → weight (moved (global_end code text) waits) < 1 + (1 + waits_weight waits)
   global_lighter waits Normal text = omega arith
@@ -355,19 +355,19 @@ module _ {K : Type 0} where
   end_lighter store context (Return code) text (ForValue room evaluation) waits = omega arith
   end_lighter store context Break text (ForValue room evaluation) waits = omega arith
   end_lighter store context Continue text (ForValue room evaluation) waits = omega arith
-  end_lighter store context Normal text (ForTest room turning) waits = turn_lighter room turning waits (truth_of_text text)
-  end_lighter store context Error text (ForTest room turning) waits = omega arith
-  end_lighter store context (Return code) text (ForTest room turning) waits = omega arith
-  end_lighter store context Break text (ForTest room turning) waits = omega arith
-  end_lighter store context Continue text (ForTest room turning) waits = omega arith
+  end_lighter store context Normal text (ForTest room looping) waits = iteration_lighter room looping waits (truth_of_text text)
+  end_lighter store context Error text (ForTest room looping) waits = omega arith
+  end_lighter store context (Return code) text (ForTest room looping) waits = omega arith
+  end_lighter store context Break text (ForTest room looping) waits = omega arith
+  end_lighter store context Continue text (ForTest room looping) waits = omega arith
   end_lighter store context Normal text (ForChoice room branches otherwise) waits = chosen_lighter room branches otherwise waits (truth_of_text text)
   end_lighter store context Error text (ForChoice room branches otherwise) waits = omega (arith, choice_positive room branches otherwise waits)
   end_lighter store context (Return code) text (ForChoice room branches otherwise) waits = omega (arith, choice_positive room branches otherwise waits)
   end_lighter store context Break text (ForChoice room branches otherwise) waits = omega (arith, choice_positive room branches otherwise waits)
   end_lighter store context Continue text (ForChoice room branches otherwise) waits = omega (arith, choice_positive room branches otherwise waits)
-  end_lighter store context code text (ForBody room turning) waits = body_lighter room turning waits code text
-  end_lighter store context code text (ForNext room turning) waits = after_next_lighter room turning waits code text
-  end_lighter store context code text (ForStart room turning) waits = start_lighter room turning waits code text
+  end_lighter store context code text (ForBody room looping) waits = body_lighter room looping waits code text
+  end_lighter store context code text (ForNext room looping) waits = after_next_lighter room looping waits code text
+  end_lighter store context code text (ForStart room looping) waits = start_lighter room looping waits code text
   end_lighter store context code text (ForCatch name) waits = omega arith
   end_lighter store context code text (ForLevels levels) waits = omega arith
   end_lighter store context code text ForProcedure waits = omega arith
@@ -383,7 +383,7 @@ module _ {K : Type 0} where
   quiet_lighter_by store context (Indexes x) waits n q e = rw e (indexes_lighter (here context.levels store) store x waits)
   quiet_lighter_by store context (Evaluates room evaluation given) waits n q e = evaluation_lighter (here context.levels store) store room evaluation given waits n.moved e.0
   quiet_lighter_by store context (Calls room words) waits n q e = absurd q
-  quiet_lighter_by store context (Tests room turning) waits n q e = absurd q
+  quiet_lighter_by store context (Tests room looping) waits n q e = absurd q
   quiet_lighter_by store context (Steps room task) waits n q e = absurd q
   quiet_lighter_by store context (Resumes room task code text) waits n q e = absurd q
   quiet_lighter_by store context (Ends code text) [] n q e = absurd (q refl)
@@ -399,7 +399,7 @@ module _ {K : Type 0} where
   light_by store context (Indexes x) waits n e = omega (arith, quiet_lighter_by store context (Indexes x) waits n tt e)
   light_by store context (Evaluates room evaluation given) waits n e = omega (arith, quiet_lighter_by store context (Evaluates room evaluation given) waits n tt e)
   light_by store context (Calls room words) waits n e = rw e (omega arith)
-  light_by store context (Tests room turning) waits n e = rw e (omega arith)
+  light_by store context (Tests room looping) waits n e = rw e (omega arith)
   light_by store context (Steps room task) waits n e = rw e (omega arith)
   light_by store context (Resumes room task code text) waits n e = rw e (omega arith)
   light_by store context (Ends code text) [] n e = rw e (omega arith)
@@ -534,17 +534,17 @@ module _ {K : Type 0} (size : K → ℕ) where
   value_tasks room evaluation waits Break text = omega arith
   value_tasks room evaluation waits Continue text = omega arith
 
-  turn_tasks : (room : ℕ) (turning : Turning) (waits : List (Waiting K)) (truth : Result Bool (List ℕ)) → tasks (turn_move room turning waits truth) ≡ waits_tasks waits
-  turn_tasks room turning waits (Ok true) = omega arith
-  turn_tasks room turning waits (Ok false) = omega arith
-  turn_tasks room turning waits (Err text) = omega arith
+  iteration_tasks : (room : ℕ) (looping : Loop) (waits : List (Waiting K)) (truth : Result Bool (List ℕ)) → tasks (iteration_move room looping waits truth) ≡ waits_tasks waits
+  iteration_tasks room looping waits (Ok true) = omega arith
+  iteration_tasks room looping waits (Ok false) = omega arith
+  iteration_tasks room looping waits (Err text) = omega arith
 
-  test_tasks : (room : ℕ) (turning : Turning) (waits : List (Waiting K)) (code : Code) (text : List ℕ) → tasks (after_test_move room turning waits code text) ≡ waits_tasks waits
-  test_tasks room turning waits Normal text = turn_tasks room turning waits (truth_of_text text)
-  test_tasks room turning waits Error text = omega arith
-  test_tasks room turning waits (Return code) text = omega arith
-  test_tasks room turning waits Break text = omega arith
-  test_tasks room turning waits Continue text = omega arith
+  test_tasks : (room : ℕ) (looping : Loop) (waits : List (Waiting K)) (code : Code) (text : List ℕ) → tasks (after_test_move room looping waits code text) ≡ waits_tasks waits
+  test_tasks room looping waits Normal text = iteration_tasks room looping waits (truth_of_text text)
+  test_tasks room looping waits Error text = omega arith
+  test_tasks room looping waits (Return code) text = omega arith
+  test_tasks room looping waits Break text = omega arith
+  test_tasks room looping waits Continue text = omega arith
 
   chosen_tasks : (room : ℕ) (branches : List Branch) (otherwise : Option (List ℕ)) (waits : List (Waiting K)) (truth : Result Bool (List ℕ)) → tasks (chosen_move room branches otherwise waits truth) ≡ waits_tasks waits
   chosen_tasks room [] otherwise waits (Ok holds) = otherwise_tasks room otherwise waits
@@ -560,30 +560,30 @@ module _ {K : Type 0} (size : K → ℕ) where
   after_choice_tasks room branches otherwise waits Break text = omega arith
   after_choice_tasks room branches otherwise waits Continue text = omega arith
 
-  next_tasks : (room : ℕ) (turning : Turning) (waits : List (Waiting K)) (next : Option (List ℕ)) → tasks (next_move room turning waits next) ≡ waits_tasks waits
-  next_tasks room turning waits None = omega arith
-  next_tasks room turning waits (Some script) = omega arith
+  next_tasks : (room : ℕ) (looping : Loop) (waits : List (Waiting K)) (next : Option (List ℕ)) → tasks (next_move room looping waits next) ≡ waits_tasks waits
+  next_tasks room looping waits None = omega arith
+  next_tasks room looping waits (Some script) = omega arith
 
-  body_tasks : (room : ℕ) (turning : Turning) (waits : List (Waiting K)) (code : Code) (text : List ℕ) → tasks (after_body_move room turning waits code text) ≡ waits_tasks waits
-  body_tasks room turning waits Normal text = next_tasks room turning waits turning.next
-  body_tasks room turning waits Error text = omega arith
-  body_tasks room turning waits (Return code) text = omega arith
-  body_tasks room turning waits Break text = omega arith
-  body_tasks room turning waits Continue text = next_tasks room turning waits turning.next
+  body_tasks : (room : ℕ) (looping : Loop) (waits : List (Waiting K)) (code : Code) (text : List ℕ) → tasks (after_body_move room looping waits code text) ≡ waits_tasks waits
+  body_tasks room looping waits Normal text = next_tasks room looping waits looping.next
+  body_tasks room looping waits Error text = omega arith
+  body_tasks room looping waits (Return code) text = omega arith
+  body_tasks room looping waits Break text = omega arith
+  body_tasks room looping waits Continue text = next_tasks room looping waits looping.next
 
-  after_next_tasks : (room : ℕ) (turning : Turning) (waits : List (Waiting K)) (code : Code) (text : List ℕ) → tasks (after_next_move room turning waits code text) ≡ waits_tasks waits
-  after_next_tasks room turning waits Normal text = omega arith
-  after_next_tasks room turning waits Error text = omega arith
-  after_next_tasks room turning waits (Return code) text = omega arith
-  after_next_tasks room turning waits Break text = omega arith
-  after_next_tasks room turning waits Continue text = omega arith
+  after_next_tasks : (room : ℕ) (looping : Loop) (waits : List (Waiting K)) (code : Code) (text : List ℕ) → tasks (after_next_move room looping waits code text) ≡ waits_tasks waits
+  after_next_tasks room looping waits Normal text = omega arith
+  after_next_tasks room looping waits Error text = omega arith
+  after_next_tasks room looping waits (Return code) text = omega arith
+  after_next_tasks room looping waits Break text = omega arith
+  after_next_tasks room looping waits Continue text = omega arith
 
-  start_tasks : (room : ℕ) (turning : Turning) (waits : List (Waiting K)) (code : Code) (text : List ℕ) → tasks (after_start_move room turning waits code text) ≡ waits_tasks waits
-  start_tasks room turning waits Normal text = omega arith
-  start_tasks room turning waits Error text = omega arith
-  start_tasks room turning waits (Return code) text = omega arith
-  start_tasks room turning waits Break text = omega arith
-  start_tasks room turning waits Continue text = omega arith
+  start_tasks : (room : ℕ) (looping : Loop) (waits : List (Waiting K)) (code : Code) (text : List ℕ) → tasks (after_start_move room looping waits code text) ≡ waits_tasks waits
+  start_tasks room looping waits Normal text = omega arith
+  start_tasks room looping waits Error text = omega arith
+  start_tasks room looping waits (Return code) text = omega arith
+  start_tasks room looping waits Break text = omega arith
+  start_tasks room looping waits Continue text = omega arith
 
   global_tasks : (waits : List (Waiting K)) (code : Code) (text : List ℕ) → tasks (moved (global_end code text) waits) ≡ waits_tasks waits
   global_tasks waits Normal text = omega arith
@@ -597,11 +597,11 @@ module _ {K : Type 0} (size : K → ℕ) where
   end_tasks store context code text (ForPart w) waits = omega (arith, part_tasks (here context.levels store) store w waits code text)
   end_tasks store context code text (ForIndex x) waits = omega (arith, after_index_tasks x waits code text)
   end_tasks store context code text (ForValue room evaluation) waits = omega (arith, value_tasks room evaluation waits code text)
-  end_tasks store context code text (ForTest room turning) waits = omega (arith, test_tasks room turning waits code text)
+  end_tasks store context code text (ForTest room looping) waits = omega (arith, test_tasks room looping waits code text)
   end_tasks store context code text (ForChoice room branches otherwise) waits = omega (arith, after_choice_tasks room branches otherwise waits code text)
-  end_tasks store context code text (ForBody room turning) waits = omega (arith, body_tasks room turning waits code text)
-  end_tasks store context code text (ForNext room turning) waits = omega (arith, after_next_tasks room turning waits code text)
-  end_tasks store context code text (ForStart room turning) waits = omega (arith, start_tasks room turning waits code text)
+  end_tasks store context code text (ForBody room looping) waits = omega (arith, body_tasks room looping waits code text)
+  end_tasks store context code text (ForNext room looping) waits = omega (arith, after_next_tasks room looping waits code text)
+  end_tasks store context code text (ForStart room looping) waits = omega (arith, start_tasks room looping waits code text)
   end_tasks store context code text (ForCatch name) waits = omega arith
   end_tasks store context code text (ForLevels levels) waits = omega arith
   end_tasks store context code text ForProcedure waits = omega arith
@@ -617,7 +617,7 @@ module _ {K : Type 0} (size : K → ℕ) where
   quiet_tasks_by store context (Indexes x) waits n e = rw e (index_tasks (here context.levels store) store x waits (word_end (here context.levels store) store x.pieces x.so_far) ∙ omega arith)
   quiet_tasks_by store context (Evaluates room evaluation given) waits n e = evaluation_tasks (here context.levels store) store room evaluation given waits n.moved e.0 ∙ omega arith
   quiet_tasks_by store context (Calls room words) waits n e = rw e refl
-  quiet_tasks_by store context (Tests room turning) waits n e = rw e refl
+  quiet_tasks_by store context (Tests room looping) waits n e = rw e refl
   quiet_tasks_by store context (Steps room task) waits n e = rw e refl
   quiet_tasks_by store context (Resumes room task code text) waits n e = rw e refl
   quiet_tasks_by store context (Ends code text) [] n e = rw e refl

@@ -5,14 +5,15 @@ use Rattle.tcl_words.specs.declared.script.Word.{Word}
 use Rattle.tcl_words.specs.declared.script.Piece.{Piece}
 use Rattle.tcl_control.specs.declared.code.Code.{Code}
 use Rattle.tcl_control.specs.declared.code.Code.TheVariants.{Normal}
-use Rattle.tcl_control.specs.declared.turns.Turning.{Turning}
+use Rattle.tcl_control.specs.declared.loops.Loop.{Loop}
 use Rattle.tcl_commands.specs.declared.branches.Branch.{Branch}
 use Rattle.tcl_expr.specs.Resuming.{Resumption, evaluation_told}
 use Rattle.tcl_interp.specs.Outside.{Outside}
 use Rattle.tcl_interp.specs.Evaluation.{State, Outcome, Ended, OutOfSteps, and_then, on_normal, with_step, with_joined, words_of, on_words, pieces_meaning, element_read, element_meaning, word_meaning, words_meaning, called, commands_meaning}
 use Rattle.tcl_interp.specs.Expressions.{on_value, if_holds, run_meaning, otherwise_meaning, choices_meaning}
-use Rattle.tcl_interp.specs.Plans.{levels_back, procedure_ended, caught, loop_ended, after_body, after_next, next_turn, turn_meaning, loop_meaning}
-use Rattle.tcl_interp.specs.Scripts.{script_meaning, call_meaning, task_meaning, after_step, out_of_global, at_global}
+use Rattle.tcl_interp.specs.Plans.{levels_back, procedure_ended, caught, loop_ended, after_body, after_next, next_iteration, iteration_meaning, loop_meaning}
+use Rattle.tcl_interp.specs.Acts.{script_meaning, task_meaning, after_step, outside_meaning}
+use Rattle.tcl_interp.specs.Scripts.{call_meaning, out_of_global, at_global}
 use Rattle.tcl_text.specs.Limits.{most_running}
 
 -- a command whose words are being put together: the commands after it, the words that are whole, what there is of the next
@@ -43,7 +44,7 @@ pub data Doing (K : Type 0) : Type 0 where
   -- an evaluation, with the answer to what it asked
   Evaluates : ℕ → Resumption → Option (List ℕ) → Doing K
   Calls : ℕ → List (List ℕ) → Doing K
-  Tests : ℕ → Turning → Doing K
+  Tests : ℕ → Loop → Doing K
   Steps : ℕ → K → Doing K
   Resumes : ℕ → K → Code → List ℕ → Doing K
   Ends : Code → List ℕ → Doing K
@@ -59,15 +60,15 @@ pub data Waiting (K : Type 0) : Type 0 where
   -- an evaluation, for a bracket in it
   ForValue : ℕ → Resumption → Waiting K
   -- a loop, for the value of its condition
-  ForTest : ℕ → Turning → Waiting K
+  ForTest : ℕ → Loop → Waiting K
   -- `if`, for the value of the first condition: its branches from there on, and its last body
   ForChoice : ℕ → List Branch → Option (List ℕ) → Waiting K
   -- a loop, for its body
-  ForBody : ℕ → Turning → Waiting K
+  ForBody : ℕ → Loop → Waiting K
   -- a loop, for what `for` runs behind the body
-  ForNext : ℕ → Turning → Waiting K
+  ForNext : ℕ → Loop → Waiting K
   -- a loop, for what `for` runs before it
-  ForStart : ℕ → Turning → Waiting K
+  ForStart : ℕ → Loop → Waiting K
   -- `catch`, for its script: the name of the variable that takes the result
   ForCatch : Option (List ℕ) → Waiting K
   -- the levels that are there again after a script at fewer of them
@@ -98,13 +99,13 @@ module _ {S K : Type 0} (outside : Outside S K) where
   -- the commands that are left of a script
   abbrev pub script_rest : ℕ → List Command → List ℕ → State S → Outcome S
   script_rest room commands result state =
-      commands_meaning (script_meaning outside room) (call_meaning outside (script_meaning outside room)) commands result state
+      commands_meaning (script_meaning outside room) (call_meaning (outside_meaning outside) (script_meaning outside room)) commands result state
 
   -- what is left of the words of a command, and then its call
   abbrev pub words_rest : ℕ → List Word → List (List ℕ) → State S → Outcome S
   words_rest room words whole state =
-      words_meaning (script_meaning outside room) (call_meaning outside (script_meaning outside room)) words whole state
-      (called (script_meaning outside room) (call_meaning outside (script_meaning outside room)))
+      words_meaning (script_meaning outside room) (call_meaning (outside_meaning outside) (script_meaning outside room)) words whole state
+      (called (script_meaning outside room) (call_meaning (outside_meaning outside) (script_meaning outside room)))
 
   -- a word is whole, and then come the words behind it
   abbrev pub word_done : ℕ → Bool → List Word → List (List ℕ) → State S → List ℕ → Outcome S
@@ -120,8 +121,8 @@ module _ {S K : Type 0} (outside : Outside S K) where
   index_rest x so_far state =
       pieces_meaning (script_meaning outside x.room) (element_meaning (script_meaning outside x.room) x.depth) x.pieces so_far state (element_read x.name)
 
-  abbrev pub loop_rest : ℕ → Turning → State S → Outcome S
-  loop_rest room turning state = loop_meaning (script_meaning outside room) turning state
+  abbrev pub loop_rest : ℕ → Loop → State S → Outcome S
+  loop_rest room looping state = loop_meaning (script_meaning outside room) looping state
 
   -- what is left of an evaluation
   abbrev pub value_rest : ℕ → Resumption → Option (List ℕ) → State S → Outcome S
@@ -134,8 +135,8 @@ module _ {S K : Type 0} (outside : Outside S K) where
       if_holds (script_meaning outside room branch.body) (choices_meaning (script_meaning outside room) branches otherwise) holds state
 
   -- the body of a loop, and what comes after it
-  abbrev pub turn_rest : ℕ → Turning → State S → Outcome S
-  turn_rest room turning state = turn_meaning (script_meaning outside room) turning (loop_rest room turning) state
+  abbrev pub iteration_rest : ℕ → Loop → State S → Outcome S
+  iteration_rest room looping state = iteration_meaning (script_meaning outside room) looping (loop_rest room looping) state
 
   abbrev pub task_rest : ℕ → K → State S → Code → List ℕ → Outcome S
   task_rest room task state code text = task_meaning outside (script_meaning outside room) task state code text
@@ -145,8 +146,8 @@ module _ {S K : Type 0} (outside : Outside S K) where
   doing_meaning (GoesOn room commands result) state = script_rest room commands result state
   doing_meaning (Indexes x) state = index_rest x x.so_far state
   doing_meaning (Evaluates room evaluation given) state = value_rest room evaluation given state
-  doing_meaning (Calls room words) state = with_step state (call_meaning outside (script_meaning outside room) words)
-  doing_meaning (Tests room turning) state = loop_rest room turning state
+  doing_meaning (Calls room words) state = with_step state (call_meaning (outside_meaning outside) (script_meaning outside room) words)
+  doing_meaning (Tests room looping) state = loop_rest room looping state
   doing_meaning (Steps room task) state = with_step state (after_step outside (script_meaning outside room) state.steps task)
   doing_meaning (Resumes room task code text) state = task_rest room task state code text
   doing_meaning (Ends code text) state = Ended state code text
@@ -161,12 +162,12 @@ module _ {S K : Type 0} (outside : Outside S K) where
   waiting_meaning (ForIndex x) state code text =
       on_normal (λ state' piece. with_joined x.so_far piece state' (λ state'' joined. index_rest x joined state'')) state code text
   waiting_meaning (ForValue room evaluation) state code text = on_normal (λ state' value. value_rest room evaluation (Some value) state') state code text
-  waiting_meaning (ForTest room turning) state code text = on_value (if_holds (turn_rest room turning) loop_ended) state code text
+  waiting_meaning (ForTest room looping) state code text = on_value (if_holds (iteration_rest room looping) loop_ended) state code text
   waiting_meaning (ForChoice room branches otherwise) state code text = on_value (choice_rest room branches otherwise) state code text
-  waiting_meaning (ForBody room turning) state code text =
-      after_body (next_turn (script_meaning outside room) turning.next (loop_rest room turning)) state code text
-  waiting_meaning (ForNext room turning) state code text = after_next (loop_rest room turning) state code text
-  waiting_meaning (ForStart room turning) state code text = on_normal (λ state' result. loop_rest room turning state') state code text
+  waiting_meaning (ForBody room looping) state code text =
+      after_body (next_iteration (script_meaning outside room) looping.next (loop_rest room looping)) state code text
+  waiting_meaning (ForNext room looping) state code text = after_next (loop_rest room looping) state code text
+  waiting_meaning (ForStart room looping) state code text = on_normal (λ state' result. loop_rest room looping state') state code text
   waiting_meaning (ForCatch name) state code text = caught name state code text
   waiting_meaning (ForLevels levels) state code text = levels_back levels state code text
   waiting_meaning ForProcedure state code text = procedure_ended state code text

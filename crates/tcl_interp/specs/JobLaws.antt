@@ -5,7 +5,8 @@ use Rattle.tcl_control.specs.declared.code.Code.{Code}
 use Rattle.tcl_interp.specs.Outside.{Told}
 use Rattle.tcl_interp.specs.Evaluation.{State, Outcome, Ended, OutOfSteps, and_then}
 use Rattle.tcl_interp.specs.Plans.{run_at}
-use Rattle.tcl_interp.specs.Scripts.{script_meaning, task_meaning, at_global}
+use Rattle.tcl_interp.specs.Acts.{script_meaning, task_meaning}
+use Rattle.tcl_interp.specs.Scripts.{at_global}
 use Rattle.tcl_interp.specs.declared.job.Looked.TheVariants.{Wants, Ends}
 use Rattle.tcl_interp.specs.declared.job.Task.{Task}
 use Rattle.tcl_interp.specs.declared.job.Task.TheVariants.{Begins, Runs, Invoked}

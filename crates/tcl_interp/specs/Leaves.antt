@@ -4,7 +4,7 @@ use Rattle.tcl_vars.specs.Store.{Store}
 use Rattle.tcl_control.specs.declared.code.Code.{Code}
 use Rattle.tcl_interp.specs.Evaluation.{State, Outcome, Ended, OutOfSteps}
 use Rattle.tcl_interp.specs.Outside.{Outside}
-use Rattle.tcl_interp.specs.Scripts.{script_meaning, task_meaning}
+use Rattle.tcl_interp.specs.Acts.{script_meaning, task_meaning}
 
 -- something of what an object shows is this where an evaluation has come to an end
 abbrev pub EndsWith : {S T : Type 0} → (S → T) → T → Outcome S → Type 0

@@ -1,4 +1,5 @@
 -- What the contracts cite.
+pub mod Acts
 pub mod Advances
 pub mod Course
 pub mod Evaluation

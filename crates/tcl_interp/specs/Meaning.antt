@@ -5,7 +5,8 @@ use Rattle.tcl_control.specs.declared.code.Code.{Code}
 use Rattle.tcl_interp.specs.Outside.{Told}
 use Rattle.tcl_interp.specs.Evaluation.{State, Outcome, Ended, and_then, with_step}
 use Rattle.tcl_interp.specs.Plans.{run_at}
-use Rattle.tcl_interp.specs.Scripts.{act_meaning, out_of_global, script_meaning, told_state}
+use Rattle.tcl_interp.specs.Acts.{act_meaning, script_meaning, told_state}
+use Rattle.tcl_interp.specs.Scripts.{out_of_global}
 use Rattle.tcl_interp.specs.declared.job.Looked.{Looked}
 use Rattle.tcl_interp.specs.declared.job.Looked.TheVariants.{Wants, Ends}
 use Rattle.tcl_interp.specs.declared.job.Started.{Started}
@@ -14,11 +15,15 @@ use Rattle.tcl_interp.specs.Course.{Course}
 use Rattle.tcl_interp.specs.Tasks.{looked_told, outside_of}
 
 module _ {S J : Type 0} (course : Course S J) where
-  -- What an interpreter with room for so many scripts one in another makes of a job, by its tasks, where the commands of scripts do this.
-  abbrev pub job_meaning : (S → Store → List (List ℕ) → Told S (Task J)) → ℕ → J → State S → Outcome S
-  job_meaning calls room job state =
+  -- what an interpreter makes of a job, by its tasks, where the commands of scripts do this, and scripts are run so
+  abbrev pub job_by : (S → Store → List (List ℕ) → Told S (Task J)) → (List ℕ → State S → Outcome S) → J → State S → Outcome S
+  job_by calls run job state =
       (let there : Told S (Task J) = looked_told course state.shows state.store job in
-      act_meaning (outside_of course calls) (script_meaning (outside_of course calls) room) [] (told_state there state) there.act)
+      act_meaning (outside_of course calls) run [] (told_state there state) there.act)
+
+  -- with room for so many scripts one in another
+  abbrev pub job_meaning : (S → Store → List (List ℕ) → Told S (Task J)) → ℕ → J → State S → Outcome S
+  job_meaning calls room = job_by calls (script_meaning (outside_of course calls) room)
 
   -- How a script is run is given, and what a job comes to that is looked at.
   module _ (run : List ℕ → State S → Outcome S) (done : J → State S → Outcome S) where

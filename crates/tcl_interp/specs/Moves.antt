@@ -20,20 +20,20 @@ use Rattle.tcl_control.specs.declared.code.Code.TheVariants.{Normal, Error, Brea
 use Rattle.tcl_control.specs.declared.context.Context.{Context}
 use Rattle.tcl_control.specs.declared.plan.Plan.{Plan}
 use Rattle.tcl_control.specs.declared.plan.Plan.TheVariants as plan
-use Rattle.tcl_control.specs.declared.turns.Test.{Test}
-use Rattle.tcl_control.specs.declared.turns.Test.TheVariants.{Holds, Items}
-use Rattle.tcl_control.specs.declared.turns.Turning.{Turning}
+use Rattle.tcl_control.specs.declared.loops.Test.{Test}
+use Rattle.tcl_control.specs.declared.loops.Test.TheVariants.{Holds, Items}
+use Rattle.tcl_control.specs.declared.loops.Loop.{Loop}
 use Rattle.tcl_control.specs.Expressions.{truth_of_text}
 use Rattle.tcl_control.specs.ExpressionForms.{evaluation_begins}
 use Rattle.tcl_control.specs.Commands.{Ending, caught_ending}
 use Rattle.tcl_control.specs.Levels.{here, popped}
 use Rattle.tcl_control.specs.Source.{script_of}
 use Rattle.tcl_control.specs.Texts.{limit_text, message, nesting_text, break_outside, continue_outside, cannot_read_text, element_name, unknown_command}
-use Rattle.tcl_control.specs.Turns.{Tested, More, NoMore, Fails as TestFails, items_tested}
+use Rattle.tcl_control.specs.Loops.{Tested, More, NoMore, Fails as TestFails, items_tested}
 use Rattle.tcl_interp.specs.declared.tasks.Act.{Act}
 use Rattle.tcl_interp.specs.declared.tasks.Act.TheVariants.{Done, Step, Run, Unknown}
 use Rattle.tcl_interp.specs.Evaluation.{index_pieces, index_depth, words_of}
-use Rattle.tcl_interp.specs.Plans.{cut, others, with_levels_behind, callers, procedure_code, procedure_text}
+use Rattle.tcl_interp.specs.Plans.{with_first_levels, others, with_levels_behind, callers, procedure_code, procedure_text}
 use Rattle.tcl_interp.specs.Scripts.{out_of_global}
 use Rattle.tcl_interp.specs.Finish.{Wording, Indexing, Doing, Begins, GoesOn, Indexes, Evaluates, Calls, Tests, Steps, Resumes, Ends, Waiting, ForCommand, ForPart, ForIndex, ForValue, ForTest, ForChoice, ForBody, ForNext, ForStart, ForCatch, ForLevels, ForProcedure, ForScript, ForAll}
 use Rattle.tcl_text.specs.Limits.{most_bytes}
@@ -235,14 +235,14 @@ module _ {K : Type 0} where
   after_value_move room evaluation waits code text = moved (Ends code text) waits
 
   -- the test of a loop
-  abbrev pub turn_move : ℕ → Turning → List (Waiting K) → Result Bool (List ℕ) → Moved K
-  turn_move room turning waits (Ok true) = moved (Begins room turning.body) (ForBody room turning ∷ waits)
-  turn_move room turning waits (Ok false) = moved (Ends Normal []) waits
-  turn_move room turning waits (Err text) = moved (Ends Error text) waits
+  abbrev pub iteration_move : ℕ → Loop → List (Waiting K) → Result Bool (List ℕ) → Moved K
+  iteration_move room looping waits (Ok true) = moved (Begins room looping.body) (ForBody room looping ∷ waits)
+  iteration_move room looping waits (Ok false) = moved (Ends Normal []) waits
+  iteration_move room looping waits (Err text) = moved (Ends Error text) waits
 
-  abbrev pub after_test_move : ℕ → Turning → List (Waiting K) → Code → List ℕ → Moved K
-  after_test_move room turning waits Normal text = turn_move room turning waits (truth_of_text text)
-  after_test_move room turning waits code text = moved (Ends code text) waits
+  abbrev pub after_test_move : ℕ → Loop → List (Waiting K) → Code → List ℕ → Moved K
+  after_test_move room looping waits Normal text = iteration_move room looping waits (truth_of_text text)
+  after_test_move room looping waits code text = moved (Ends code text) waits
 
   -- whether the first condition of `if` holds
   abbrev pub chosen_move : ℕ → List Branch → Option (List ℕ) → List (Waiting K) → Result Bool (List ℕ) → Moved K
@@ -256,24 +256,24 @@ module _ {K : Type 0} where
   after_choice_move room branches otherwise waits code text = moved (Ends code text) waits
 
   -- on to the next test of a loop
-  abbrev pub next_move : ℕ → Turning → List (Waiting K) → Option (List ℕ) → Moved K
-  next_move room turning waits None = moved (Tests room turning) waits
-  next_move room turning waits (Some script) = moved (Begins room script) (ForNext room turning ∷ waits)
+  abbrev pub next_move : ℕ → Loop → List (Waiting K) → Option (List ℕ) → Moved K
+  next_move room looping waits None = moved (Tests room looping) waits
+  next_move room looping waits (Some script) = moved (Begins room script) (ForNext room looping ∷ waits)
 
-  abbrev pub after_body_move : ℕ → Turning → List (Waiting K) → Code → List ℕ → Moved K
-  after_body_move room turning waits Normal text = next_move room turning waits turning.next
-  after_body_move room turning waits Continue text = next_move room turning waits turning.next
-  after_body_move room turning waits Break text = moved (Ends Normal []) waits
-  after_body_move room turning waits code text = moved (Ends code text) waits
+  abbrev pub after_body_move : ℕ → Loop → List (Waiting K) → Code → List ℕ → Moved K
+  after_body_move room looping waits Normal text = next_move room looping waits looping.next
+  after_body_move room looping waits Continue text = next_move room looping waits looping.next
+  after_body_move room looping waits Break text = moved (Ends Normal []) waits
+  after_body_move room looping waits code text = moved (Ends code text) waits
 
-  abbrev pub after_next_move : ℕ → Turning → List (Waiting K) → Code → List ℕ → Moved K
-  after_next_move room turning waits Normal text = moved (Tests room turning) waits
-  after_next_move room turning waits Break text = moved (Ends Normal []) waits
-  after_next_move room turning waits code text = moved (Ends code text) waits
+  abbrev pub after_next_move : ℕ → Loop → List (Waiting K) → Code → List ℕ → Moved K
+  after_next_move room looping waits Normal text = moved (Tests room looping) waits
+  after_next_move room looping waits Break text = moved (Ends Normal []) waits
+  after_next_move room looping waits code text = moved (Ends code text) waits
 
-  abbrev pub after_start_move : ℕ → Turning → List (Waiting K) → Code → List ℕ → Moved K
-  after_start_move room turning waits Normal text = moved (Tests room turning) waits
-  after_start_move room turning waits code text = moved (Ends code text) waits
+  abbrev pub after_start_move : ℕ → Loop → List (Waiting K) → Code → List ℕ → Moved K
+  after_start_move room looping waits Normal text = moved (Tests room looping) waits
+  after_start_move room looping waits code text = moved (Ends code text) waits
 
   abbrev pub global_end : Code → List ℕ → Doing K
   global_end Break text = Ends Error break_outside
@@ -292,12 +292,12 @@ module _ {K : Type 0} where
   end_move store context code text (ForPart w) waits = standing (after_part (here context.levels store) store w waits code text) store context
   end_move store context code text (ForIndex x) waits = standing (after_index x waits code text) store context
   end_move store context code text (ForValue room evaluation) waits = standing (after_value_move room evaluation waits code text) store context
-  end_move store context code text (ForTest room turning) waits = standing (after_test_move room turning waits code text) store context
+  end_move store context code text (ForTest room looping) waits = standing (after_test_move room looping waits code text) store context
   end_move store context code text (ForChoice room branches otherwise) waits =
       standing (after_choice_move room branches otherwise waits code text) store context
-  end_move store context code text (ForBody room turning) waits = standing (after_body_move room turning waits code text) store context
-  end_move store context code text (ForNext room turning) waits = standing (after_next_move room turning waits code text) store context
-  end_move store context code text (ForStart room turning) waits = standing (after_start_move room turning waits code text) store context
+  end_move store context code text (ForBody room looping) waits = standing (after_body_move room looping waits code text) store context
+  end_move store context code text (ForNext room looping) waits = standing (after_next_move room looping waits code text) store context
+  end_move store context code text (ForStart room looping) waits = standing (after_start_move room looping waits code text) store context
   end_move store context code text (ForCatch name) waits = ending_move (caught_ending (here context.levels store) name code text store) context waits
   end_move store context code text (ForLevels levels) waits = standing (moved (Ends code text) waits) store (with_levels_behind levels context)
   end_move store context code text ForProcedure waits =
@@ -313,29 +313,29 @@ module _ {K : Type 0} where
   plan_move room store context waits (plan.Runs script) = standing (moved (Begins room script) waits) store context
   plan_move room store context waits (plan.Catches script name) = standing (moved (Begins room script) (ForCatch name ∷ waits)) store context
   plan_move room store context waits (plan.RunsAt count script) =
-      standing (moved (Begins room script) (ForLevels (others count context) ∷ waits)) store (cut count context)
+      standing (moved (Begins room script) (ForLevels (others count context) ∷ waits)) store (with_first_levels count context)
   plan_move room store context waits (plan.Enters body) = standing (moved (Begins room body) (ForProcedure ∷ waits)) store context
   plan_move room store context waits (plan.Evaluates expression) = standing (moved (expression_begins room expression) waits) store context
   plan_move room store context waits (plan.Chooses choices) = standing (choice_move room choices.branches choices.otherwise waits) store context
-  plan_move room store context waits (plan.Turns turning) = standing (moved (Tests room turning) waits) store context
-  plan_move room store context waits (plan.Starts script turning) = standing (moved (Begins room script) (ForStart room turning ∷ waits)) store context
+  plan_move room store context waits (plan.Loops looping) = standing (moved (Tests room looping) waits) store context
+  plan_move room store context waits (plan.Starts script looping) = standing (moved (Begins room script) (ForStart room looping ∷ waits)) store context
 
-  abbrev pub items_move : ℕ → Turning → Context → List (Waiting K) → Tested → Standing K
-  items_move room turning context waits (More store groups) =
-      standing (moved (Begins room turning.body) (ForBody room (record turning { test = Items groups }) ∷ waits)) store context
-  items_move room turning context waits (NoMore store) = standing (moved (Ends Normal []) waits) store context
-  items_move room turning context waits (TestFails store text) = standing (moved (Ends Error text) waits) store context
+  abbrev pub items_move : ℕ → Loop → Context → List (Waiting K) → Tested → Standing K
+  items_move room looping context waits (More store groups) =
+      standing (moved (Begins room looping.body) (ForBody room (record looping { test = Items groups }) ∷ waits)) store context
+  items_move room looping context waits (NoMore store) = standing (moved (Ends Normal []) waits) store context
+  items_move room looping context waits (TestFails store text) = standing (moved (Ends Error text) waits) store context
 
-  -- a loop tests whether it has another turn
-  abbrev pub test_move : ℕ → Turning → Store → Context → List (Waiting K) → Test → Standing K
-  test_move room turning store context waits (Holds condition) =
-      standing (moved (expression_begins room condition) (ForTest room turning ∷ waits)) store context
-  test_move room turning store context waits (Items groups) = items_move room turning context waits (items_tested (here context.levels store) groups store)
+  -- a loop tests whether it has another iteration
+  abbrev pub test_move : ℕ → Loop → Store → Context → List (Waiting K) → Test → Standing K
+  test_move room looping store context waits (Holds condition) =
+      standing (moved (expression_begins room condition) (ForTest room looping ∷ waits)) store context
+  test_move room looping store context waits (Items groups) = items_move room looping context waits (items_tested (here context.levels store) groups store)
 
   -- what an act of a command of this name, or of a task, leads to
   abbrev pub act_move : ℕ → List ℕ → Store → Context → List (Waiting K) → Act K → Standing K
   act_move room name store context waits (Done code text) = standing (moved (Ends code text) waits) store context
   act_move room name store context waits (Step task) = standing (moved (Steps room task) waits) store context
   act_move room name store context waits (Run script task) =
-      standing (moved (Begins room script) (ForLevels (others 1 context) ∷ ForScript room task ∷ waits)) store (cut 1 context)
+      standing (moved (Begins room script) (ForLevels (others 1 context) ∷ ForScript room task ∷ waits)) store (with_first_levels 1 context)
   act_move room name store context waits Unknown = standing (moved (Ends Error (unknown_command name)) waits) store context

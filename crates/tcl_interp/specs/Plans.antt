@@ -7,13 +7,13 @@ use Rattle.tcl_control.specs.declared.code.ReturnCode.TheVariants.{Normal as AsN
 use Rattle.tcl_control.specs.declared.context.Context.{Context}
 use Rattle.tcl_control.specs.declared.plan.Plan.{Plan}
 use Rattle.tcl_control.specs.declared.plan.Plan.TheVariants as plan
-use Rattle.tcl_control.specs.declared.turns.Test.{Test}
-use Rattle.tcl_control.specs.declared.turns.Test.TheVariants.{Holds, Items}
-use Rattle.tcl_control.specs.declared.turns.Turning.{Turning}
+use Rattle.tcl_control.specs.declared.loops.Test.{Test}
+use Rattle.tcl_control.specs.declared.loops.Test.TheVariants.{Holds, Items}
+use Rattle.tcl_control.specs.declared.loops.Loop.{Loop}
 use Rattle.tcl_control.specs.Commands.{Ending, caught_ending}
 use Rattle.tcl_control.specs.Levels.{up, popped}
 use Rattle.tcl_control.specs.Texts.{break_outside, continue_outside}
-use Rattle.tcl_control.specs.Turns.{Tested, More, NoMore, Fails, items_tested}
+use Rattle.tcl_control.specs.Loops.{Tested, More, NoMore, Fails, items_tested}
 use Rattle.tcl_commands.specs.declared.groups.Group.{Group}
 use Rattle.tcl_interp.specs.Evaluation.{State, Outcome, Ended, OutOfSteps, seen_level, and_then, on_normal, with_step}
 use Rattle.tcl_interp.specs.Expressions.{if_holds, expression_meaning, condition_meaning, choices_meaning}
@@ -24,8 +24,8 @@ abbrev pub with_levels : List ℕ → Context → Context
 with_levels levels context = record context { levels = levels }
 
 -- only so many of the levels
-abbrev pub cut : ℕ → Context → Context
-cut count context = with_levels (take count context.levels) context
+abbrev pub with_first_levels : ℕ → Context → Context
+with_first_levels count context = with_levels (take count context.levels) context
 
 -- the others
 abbrev pub others : ℕ → Context → List ℕ
@@ -92,7 +92,7 @@ on_tested state body (Fails store text) = Ended (record state { store = store })
 abbrev pub loop_ended : {S : Type 0} → State S → Outcome S
 loop_ended state = Ended state Normal []
 
--- after the body of a loop: on to the next turn, the end, or another code
+-- after the body of a loop: on to the next iteration, the end, or another code
 abbrev pub after_body : {S : Type 0} → (State S → Outcome S) → State S → Code → List ℕ → Outcome S
 after_body again state Normal text = again state
 after_body again state Continue text = again state
@@ -109,12 +109,12 @@ after_next again state code text = Ended state code text
 module _ {S : Type 0} (run : List ℕ → State S → Outcome S) where
   -- a script where only so many of the levels are
   abbrev pub run_at : ℕ → List ℕ → State S → Outcome S
-  run_at count script state = and_then (run script (record state { context = cut count state.context })) (levels_back (others count state.context))
+  run_at count script state = and_then (run script (record state { context = with_first_levels count state.context })) (levels_back (others count state.context))
 
   -- on to the next test: `for` runs a script before it
-  abbrev pub next_turn : Option (List ℕ) → (State S → Outcome S) → State S → Outcome S
-  next_turn None again state = again state
-  next_turn (Some script) again state = and_then (run script state) (after_next again)
+  abbrev pub next_iteration : Option (List ℕ) → (State S → Outcome S) → State S → Outcome S
+  next_iteration None again state = again state
+  next_iteration (Some script) again state = and_then (run script state) (after_next again)
 
   -- the test of a loop, given its body with what is tested after it
   abbrev pub test_meaning : Test → (Test → State S → Outcome S) → State S → Outcome S
@@ -122,18 +122,18 @@ module _ {S : Type 0} (run : List ℕ → State S → Outcome S) where
   test_meaning (Items groups) body state = on_tested state (λ left. body (Items left)) (items_tested (seen_level state) groups state.store)
 
   -- the body of a loop, and what comes after it
-  abbrev pub turn_meaning : Turning → (State S → Outcome S) → State S → Outcome S
-  turn_meaning turning again state = and_then (run turning.body state) (after_body (next_turn turning.next again))
+  abbrev pub iteration_meaning : Loop → (State S → Outcome S) → State S → Outcome S
+  iteration_meaning looping again state = and_then (run looping.body state) (after_body (next_iteration looping.next again))
 
-  -- Of so many turns, each of which takes a step for its test: so no more than steps are left are ever made.
-  abbrev pub turns_meaning : Turning → ℕ → State S → Outcome S
-  turns_meaning turning zero state = OutOfSteps state
-  turns_meaning turning (suc turns) state =
-      with_step state (test_meaning turning.test (λ test. turn_meaning turning (turns_meaning (record turning { test = test }) turns)))
+  -- Of so many iterations, each of which takes a step for its test: so no more than steps are left are ever made.
+  abbrev pub iterations_meaning : Loop → ℕ → State S → Outcome S
+  iterations_meaning looping zero state = OutOfSteps state
+  iterations_meaning looping (suc iterations) state =
+      with_step state (test_meaning looping.test (λ test. iteration_meaning looping (iterations_meaning (record looping { test = test }) iterations)))
 
   -- a loop
-  abbrev pub loop_meaning : Turning → State S → Outcome S
-  loop_meaning turning state = turns_meaning turning state.steps state
+  abbrev pub loop_meaning : Loop → State S → Outcome S
+  loop_meaning looping state = iterations_meaning looping state.steps state
 
   -- what a command does
   abbrev pub plan_meaning : Plan → State S → Outcome S
@@ -144,5 +144,5 @@ module _ {S : Type 0} (run : List ℕ → State S → Outcome S) where
   plan_meaning (plan.Enters body) state = and_then (run body state) procedure_ended
   plan_meaning (plan.Evaluates expression) state = expression_meaning run expression state
   plan_meaning (plan.Chooses choices) state = choices_meaning run choices.branches choices.otherwise state
-  plan_meaning (plan.Turns turning) state = loop_meaning turning state
-  plan_meaning (plan.Starts script turning) state = and_then (run script state) (on_normal (λ state' text. loop_meaning turning state'))
+  plan_meaning (plan.Loops looping) state = loop_meaning looping state
+  plan_meaning (plan.Starts script looping) state = and_then (run script state) (on_normal (λ state' text. loop_meaning looping state'))

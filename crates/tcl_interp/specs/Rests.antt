@@ -102,7 +102,7 @@ module _ {K : Type 0} where
   doing_of (now.Indexes part) = Indexes (indexing_of part.value)
   doing_of (now.Evaluates room answered) = Evaluates room answered.value.eval answered.value.given
   doing_of (now.Calls room words) = Calls room words
-  doing_of (now.Tests room turning) = Tests room turning
+  doing_of (now.Tests room looping) = Tests room looping
   doing_of (now.Steps room task) = Steps room task.value
   doing_of (now.Resumes room task code text) = Resumes room task.value code text
   doing_of (now.Ends code text) = Ends code text
@@ -112,11 +112,11 @@ module _ {K : Type 0} where
   waiting_of (frame.ForPart part) = ForPart (wording_of part.value)
   waiting_of (frame.ForIndex part) = ForIndex (indexing_of part.value)
   waiting_of (frame.ForValue room asking) = ForValue room asking.value.eval
-  waiting_of (frame.ForTest room turning) = ForTest room turning
+  waiting_of (frame.ForTest room looping) = ForTest room looping
   waiting_of (frame.ForChoice room choosing) = ForChoice room (drop choosing.value.place choosing.value.choices.branches) choosing.value.choices.otherwise
-  waiting_of (frame.ForBody room turning) = ForBody room turning
-  waiting_of (frame.ForNext room turning) = ForNext room turning
-  waiting_of (frame.ForStart room turning) = ForStart room turning
+  waiting_of (frame.ForBody room looping) = ForBody room looping
+  waiting_of (frame.ForNext room looping) = ForNext room looping
+  waiting_of (frame.ForStart room looping) = ForStart room looping
   waiting_of (frame.ForCatch name) = ForCatch name
   waiting_of (frame.ForLevels levels) = ForLevels levels
   waiting_of frame.ForProcedure = ForProcedure

@@ -16,7 +16,8 @@ use Rattle.tcl_control.specs.declared.code.Code.TheVariants.{Normal}
 use Rattle.tcl_control.specs.declared.context.Context.{Context}
 use Rattle.tcl_interp.specs.Outside.{Outside}
 use Rattle.tcl_interp.specs.Evaluation.{State, Outcome, Ended, word_meaning, words_meaning}
-use Rattle.tcl_interp.specs.Scripts.{script_meaning, call_meaning}
+use Rattle.tcl_interp.specs.Acts.{script_meaning, outside_meaning}
+use Rattle.tcl_interp.specs.Scripts.{call_meaning}
 use Rattle.tcl_interp.specs.Openings.{IsInteger}
 use Rattle.tcl_interp.specs.Rests.{expand_in_front, pieces_in_front}
 use Rattle.tcl_interp.specs.Steps.{state_with}
@@ -49,8 +50,8 @@ module _ {S K : Type 0} (outside : Outside S K) where
   abbrev pub WordsLead : ℕ → Store → Context → List Word → List (List ℕ) → ℕ → List Word → List (List ℕ) → Type 0
   WordsLead room store context words before count rest whole =
       (shows : S) (left : ℕ) (after : State S → List (List ℕ) → Outcome S)
-      → words_meaning (script_meaning outside room) (call_meaning outside (script_meaning outside room)) words before (state_with shows store context (count + left)) after
-      ≡ words_meaning (script_meaning outside room) (call_meaning outside (script_meaning outside room)) rest whole (state_with shows store context left) after
+      → words_meaning (script_meaning outside room) (call_meaning (outside_meaning outside) (script_meaning outside room)) words before (state_with shows store context (count + left)) after
+      ≡ words_meaning (script_meaning outside room) (call_meaning (outside_meaning outside) (script_meaning outside room)) rest whole (state_with shows store context left) after
 
   -- a script ends normally with this text for so many steps
   abbrev pub GivesScript : ℕ → List ℕ → Store → Context → ℕ → List ℕ → Type 0
@@ -62,4 +63,4 @@ module _ {S K : Type 0} (outside : Outside S K) where
   abbrev pub EndsCall : List (List ℕ) → Store → Context → Store → Code → List ℕ → Type 0
   EndsCall words store context store' code text =
       (room : ℕ) (shows : S) (left : ℕ)
-      → call_meaning outside (script_meaning outside room) words (state_with shows store context left) ≡ Ended (state_with shows store' context left) code text
+      → call_meaning (outside_meaning outside) (script_meaning outside room) words (state_with shows store context left) ≡ Ended (state_with shows store' context left) code text

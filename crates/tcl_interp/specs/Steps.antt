@@ -13,7 +13,7 @@ module _ {K : Type 0} where
   -- a step is needed
   abbrev pub NeedsStep : Doing K → Type 0
   NeedsStep (Calls room words) = Unit {0}
-  NeedsStep (Tests room turning) = Unit {0}
+  NeedsStep (Tests room looping) = Unit {0}
   NeedsStep (Steps room task) = Unit {0}
   NeedsStep doing = ⊥
 

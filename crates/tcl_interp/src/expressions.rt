@@ -4,7 +4,7 @@ ghost use Rattle.tcl_expr.specs.declared.fault.EvalFault.TheVariants.{NoMemory};
 ghost use Rattle.tcl_expr.specs.Messages.{eval_message};
 ghost use Rattle.tcl_control.specs.declared.code.Code.TheVariants.{Error};
 ghost use Rattle.tcl_control.specs.Expressions.{truth_of_text};
-ghost use Rattle.tcl_interp.specs.Moves.{moved, standing, expression_begins, otherwise_move, choice_move, turn_move, chosen_move};
+ghost use Rattle.tcl_interp.specs.Moves.{moved, standing, expression_begins, otherwise_move, choice_move, iteration_move, chosen_move};
 ghost use Rattle.tcl_interp.specs.Finish.{Waiting, Ends, Evaluates};
 ghost use Rattle.tcl_interp.specs.Quiet.{MovesOn};
 ghost use Rattle.tcl_interp.specs.Replies.{reply_to};
@@ -158,17 +158,17 @@ fn ask_on<K: Drop>(
 }
 
 /// The condition of a loop holds, or doesn't.
-pub fn turn_by<K: Drop>(
+pub fn iteration_by<K: Drop>(
     frames: &mut Vec<Frame<K>>,
     room: u64,
-    turning: Looping,
+    looping: Looping,
     holds: bool,
 ) -> Next<K>
-    ensures { IfOk result (λ now. moved_of now frames.new.items ≡ turn_move room turning (waits_of frames.old.items) (Ok holds)) }
+    ensures { IfOk result (λ now. moved_of now frames.new.items ≡ iteration_move room looping (waits_of frames.old.items) (Ok holds)) }
 {
     if holds {
-        let script = turning.get().body.copy()?;
-        begin_for(frames, Frame::ForBody { room, turning }, room, script)
+        let script = looping.get().body.copy()?;
+        begin_for(frames, Frame::ForBody { room, looping }, room, script)
     } else {
         Ok(Now::Ends {
             code: Code::Normal,
@@ -178,17 +178,17 @@ pub fn turn_by<K: Drop>(
 }
 
 /// The condition of a loop has this value.
-pub fn turn<K: Drop>(
+pub fn iteration<K: Drop>(
     alloc: Global,
     frames: &mut Vec<Frame<K>>,
     room: u64,
-    turning: Looping,
+    looping: Looping,
     value: &Text,
 ) -> Next<K>
-    ensures { IfOk result (λ now. moved_of now frames.new.items ≡ turn_move room turning (waits_of frames.old.items) (truth_of_text value.now)) }
+    ensures { IfOk result (λ now. moved_of now frames.new.items ≡ iteration_move room looping (waits_of frames.old.items) (truth_of_text value.now)) }
 {
     match truth(alloc, value)? {
-        Ok(holds) => turn_by(frames, room, turning, holds),
+        Ok(holds) => iteration_by(frames, room, looping, holds),
         Err(text) => Ok(Now::Ends {
             code: Code::Error,
             text,
@@ -236,7 +236,7 @@ pub fn choose<K: Drop>(
 }
 
 /// The condition of `if` that was begun has this value.
-pub fn chosen<K: Drop>(
+pub fn branch_by<K: Drop>(
     alloc: Global,
     table: &mut CommandTable,
     frames: &mut Vec<Frame<K>>,

@@ -91,7 +91,7 @@ pub enum Now<K> {
     /// A loop tests its condition.
     Tests {
         room: u64,
-        turning: Looping,
+        looping: Looping,
     },
     /// A task of an outside command takes a step.
     Steps {
@@ -127,15 +127,15 @@ pub enum Frame<K> {
     /// An expression waits for what it has asked.
     ForValue { room: u64, asking: Box<Asking> },
     /// A loop waits for its condition.
-    ForTest { room: u64, turning: Looping },
+    ForTest { room: u64, looping: Looping },
     /// `if` waits for the condition of a branch.
     ForChoice { room: u64, choosing: Box<Choosing> },
     /// A loop waits for its body.
-    ForBody { room: u64, turning: Looping },
-    /// `for` waits for the script between two turns.
-    ForNext { room: u64, turning: Looping },
+    ForBody { room: u64, looping: Looping },
+    /// `for` waits for the script between two iterations.
+    ForNext { room: u64, looping: Looping },
     /// `for` waits for its first script.
-    ForStart { room: u64, turning: Looping },
+    ForStart { room: u64, looping: Looping },
     /// `catch` waits for its script, and sets this variable, if one is named.
     ForCatch(Option<Text>),
     /// `uplevel` waits for its script, and gives the levels back.

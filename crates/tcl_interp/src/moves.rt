@@ -10,7 +10,7 @@ ghost use Rattle.tcl_interp.specs.Rests.{indexing_of, waiting_of, wording_of, mo
 ghost use Rattle.tcl_interp.specs.Advances.{MoveGives};
 ghost use Rattle.tcl_interp.specs.Quiet.{Leads, Stops};
 
-use crate::expressions::{chosen, evaluate, turn};
+use crate::expressions::{branch_by, evaluate, iteration};
 use crate::machine::{
     Answered, Asking, Choosing, Frame, Indexing, Next, Now, ScriptPlace, Wording,
 };
@@ -79,14 +79,14 @@ pub fn begun<K: Drop>(alloc: Global, table: &mut CommandTable, script: Source, r
 }
 
 /// On to the next test of a loop.
-fn next_turn<K: Drop>(frames: &mut Vec<Frame<K>>, room: u64, turning: Looping) -> Next<K>
-    ensures { IfOk result (λ now. moved_of now frames.new.items ≡ next_move room turning (waits_of frames.old.items) turning.next) }
+fn next_iteration<K: Drop>(frames: &mut Vec<Frame<K>>, room: u64, looping: Looping) -> Next<K>
+    ensures { IfOk result (λ now. moved_of now frames.new.items ≡ next_move room looping (waits_of frames.old.items) looping.next) }
 {
-    match &turning.get().next {
-        None => Ok(Now::Tests { room, turning }),
+    match &looping.get().next {
+        None => Ok(Now::Tests { room, looping }),
         Some(next) => {
             let script = next.copy()?;
-            begin_for(frames, Frame::ForNext { room, turning }, room, script)
+            begin_for(frames, Frame::ForNext { room, looping }, room, script)
         }
     }
 }
@@ -96,15 +96,15 @@ fn after_body<K: Drop>(
     alloc: Global,
     frames: &mut Vec<Frame<K>>,
     room: u64,
-    turning: Looping,
+    looping: Looping,
     code: Code,
     text: Text,
 ) -> Next<K>
-    ensures { IfOk result (λ now. moved_of now frames.new.items ≡ after_body_move room turning (waits_of frames.old.items) code text) }
+    ensures { IfOk result (λ now. moved_of now frames.new.items ≡ after_body_move room looping (waits_of frames.old.items) code text) }
 {
     match code {
-        Code::Normal => next_turn(frames, room, turning),
-        Code::Continue => next_turn(frames, room, turning),
+        Code::Normal => next_iteration(frames, room, looping),
+        Code::Continue => next_iteration(frames, room, looping),
         Code::Break => Ok(Now::Ends {
             code: Code::Normal,
             text: Text::empty(),
@@ -118,14 +118,14 @@ fn after_body<K: Drop>(
 fn after_next<K: Drop>(
     alloc: Global,
     room: u64,
-    turning: Looping,
+    looping: Looping,
     code: Code,
     text: Text,
 ) -> Next<K>
-    ensures { IfOk result (λ now. (waits : List (Waiting K)) → moved (doing_of now) waits ≡ after_next_move room turning waits code text) }
+    ensures { IfOk result (λ now. (waits : List (Waiting K)) → moved (doing_of now) waits ≡ after_next_move room looping waits code text) }
 {
     match code {
-        Code::Normal => Ok(Now::Tests { room, turning }),
+        Code::Normal => Ok(Now::Tests { room, looping }),
         Code::Break => Ok(Now::Ends {
             code: Code::Normal,
             text: Text::empty(),
@@ -137,11 +137,11 @@ fn after_next<K: Drop>(
 }
 
 /// What `for` runs before the first test has ended.
-fn after_start<K: Drop>(room: u64, turning: Looping, code: Code, text: Text) -> Now<K>
-    ensures { (waits : List (Waiting K)) → moved (doing_of result) waits ≡ after_start_move room turning waits code text }
+fn after_start<K: Drop>(room: u64, looping: Looping, code: Code, text: Text) -> Now<K>
+    ensures { (waits : List (Waiting K)) → moved (doing_of result) waits ≡ after_start_move room looping waits code text }
 {
     match code {
-        Code::Normal => Now::Tests { room, turning },
+        Code::Normal => Now::Tests { room, looping },
         code => Now::Ends { code, text },
     }
 }
@@ -310,14 +310,14 @@ fn after_test<K: Drop>(
     alloc: Global,
     frames: &mut Vec<Frame<K>>,
     room: u64,
-    turning: Looping,
+    looping: Looping,
     code: Code,
     text: Text,
 ) -> Next<K>
-    ensures { IfOk result (λ now. moved_of now frames.new.items ≡ after_test_move room turning (waits_of frames.old.items) code text) }
+    ensures { IfOk result (λ now. moved_of now frames.new.items ≡ after_test_move room looping (waits_of frames.old.items) code text) }
 {
     match code {
-        Code::Normal => turn(alloc, frames, room, turning, &text),
+        Code::Normal => iteration(alloc, frames, room, looping, &text),
         code => Ok(Now::Ends { code, text }),
     }
 }
@@ -338,7 +338,7 @@ fn after_choice<K: Drop>(
         code text) }
 {
     match code {
-        Code::Normal => chosen(alloc, table, frames, room, choosing, &text),
+        Code::Normal => branch_by(alloc, table, frames, room, choosing, &text),
         code => Ok(Now::Ends { code, text }),
     }
 }
@@ -364,14 +364,14 @@ pub fn ended<K: Drop>(
         Frame::ForPart(wording) => after_part(alloc, scopes, context, frames, wording, code, text),
         Frame::ForIndex(indexing) => after_index(alloc, indexing, code, text),
         Frame::ForValue { room, asking } => after_value(alloc, room, asking, code, text),
-        Frame::ForTest { room, turning } => after_test(alloc, frames, room, turning, code, text),
+        Frame::ForTest { room, looping } => after_test(alloc, frames, room, looping, code, text),
         Frame::ForChoice { room, choosing } => {
             let table = &mut context.commands;
             after_choice(alloc, table, frames, room, choosing, code, text)
         }
-        Frame::ForBody { room, turning } => after_body(alloc, frames, room, turning, code, text),
-        Frame::ForNext { room, turning } => after_next(alloc, room, turning, code, text),
-        Frame::ForStart { room, turning } => Ok(after_start(room, turning, code, text)),
+        Frame::ForBody { room, looping } => after_body(alloc, frames, room, looping, code, text),
+        Frame::ForNext { room, looping } => after_next(alloc, room, looping, code, text),
+        Frame::ForStart { room, looping } => Ok(after_start(room, looping, code, text)),
         Frame::ForCatch(name) => {
             context.commands.forget_trail();
             after_catch(alloc, scopes, context, frames, name, code, text)
@@ -556,7 +556,7 @@ fn advance<K: Drop>(
             Ok(Move::Far(now))
         }
         Now::Calls { room, words } => Ok(Move::Due(Now::Calls { room, words })),
-        Now::Tests { room, turning } => Ok(Move::Due(Now::Tests { room, turning })),
+        Now::Tests { room, looping } => Ok(Move::Due(Now::Tests { room, looping })),
         Now::Steps { room, task } => Ok(Move::Due(Now::Steps { room, task })),
         Now::Resumes {
             room,

@@ -149,9 +149,9 @@ fn run_next<T: Tasks>(
             let now = onward(alloc, scopes, context, frames, gone.now)?;
             Ok(Gone { now, steps })
         }
-        Now::Tests { room, turning } => {
+        Now::Tests { room, looping } => {
             *left -= 1;
-            let tested = test(alloc, scopes, context, frames, turning, room)?;
+            let tested = test(alloc, scopes, context, frames, looping, room)?;
             let now = onward(alloc, scopes, context, frames, tested)?;
             Ok(Gone { now, steps: 1 })
         }

@@ -140,7 +140,7 @@ fn take_step<T: Tasks>(
                 room,
             )
         }
-        Now::Tests { room, turning } => test(alloc, scopes, context, frames, turning, room),
+        Now::Tests { room, looping } => test(alloc, scopes, context, frames, looping, room),
         Now::Steps { room, task } => Ok(Now::Resumes {
             room,
             task,
@@ -233,7 +233,7 @@ pub fn run<T: Tasks>(
 {
     let mut doing = settle(alloc, tasks, scopes, context, frames, now, true)?;
     let mut taken = 0;
-    'turns: while taken < steps && *left > 0 {
+    'iterations: while taken < steps && *left > 0 {
         match doing {
             Now::Ends { code, text } => return Ok(Ran::Ended(code, text)),
             needed => {

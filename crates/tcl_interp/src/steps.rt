@@ -1,15 +1,15 @@
 ghost use Rattle.std.specs.Prelude.{◌≡◌, ◌∷◌, IfOk, OnOk};
 ghost use Rattle.tcl_vars.specs.Store.{Store};
 ghost use Rattle.tcl_control.specs.Levels.{here};
-ghost use Rattle.tcl_control.specs.Turns.{items_tested};
-ghost use Rattle.tcl_interp.specs.Plans.{cut, others};
+ghost use Rattle.tcl_control.specs.Loops.{items_tested};
+ghost use Rattle.tcl_interp.specs.Plans.{with_first_levels, others};
 ghost use Rattle.tcl_interp.specs.Finish.{Calls, ForLevels};
 ghost use Rattle.tcl_interp.specs.Moves.{moved, standing, plan_move, items_move, test_move, act_move};
 ghost use Rattle.tcl_interp.specs.Quiet.{Leads};
 ghost use Rattle.tcl_interp.specs.Rests.{standing_of, waits_of};
 ghost use Rattle.tcl_interp.specs.Steps.{TakesStep, Resumed};
 
-use crate::expressions::turn_by;
+use crate::expressions::iteration_by;
 use crate::machine::{Frame, Next, Now};
 use crate::openings::{Condition, choose_first, open_condition, valued};
 use crate::tasks::{Act, Tasks};
@@ -17,7 +17,7 @@ use crate::words::{begin_for, wait};
 use std::alloc::{AllocError, Global};
 use tcl_commands::Groups;
 use tcl_control::{
-    Call, Code, Context, Looping, Plan, Test, Turning, Verdict, call_command, items_tested,
+    Call, Code, Context, Loop, Looping, Plan, Test, Verdict, call_command, items_tested,
 };
 use tcl_table::texts::unknown_command;
 use tcl_table::{CommandTable, Source};
@@ -31,7 +31,7 @@ fn run_at<K: Drop>(
     frames: &mut Vec<Frame<K>>,
     count: usize,
 ) -> Result<(), AllocError>
-    ensures { OnOk result ((context.new ≡ cut count context.old)
+    ensures { OnOk result ((context.new ≡ with_first_levels count context.old)
         × (waits_of frames.new.items ≡ ForLevels (others count context.old) ∷ waits_of frames.old.items)) }
 {
     let others = context.levels.cut(alloc, count)?;
@@ -62,9 +62,9 @@ fn follow<K: Drop>(
         Plan::Enters(script) => begin_for(frames, Frame::ForProcedure, room, script),
         Plan::Evaluates(expression) => valued(alloc, scopes, context, &expression, room),
         Plan::Chooses(choices) => choose_first(alloc, scopes, context, frames, room, choices),
-        Plan::Turns(turning) => Ok(Now::Tests { room, turning }),
-        Plan::Starts(script, turning) => {
-            begin_for(frames, Frame::ForStart { room, turning }, room, script)
+        Plan::Loops(looping) => Ok(Now::Tests { room, looping }),
+        Plan::Starts(script, looping) => {
+            begin_for(frames, Frame::ForStart { room, looping }, room, script)
         }
     }
 }
@@ -123,8 +123,8 @@ fn test_items<K: Drop>(
         Verdict::More(groups) => {
             let script = body.copy()?;
             let test = Test::Items(groups);
-            let turning = Looping::new(alloc, Turning { test, body, next })?;
-            begin_for(frames, Frame::ForBody { room, turning }, room, script)
+            let looping = Looping::new(alloc, Loop { test, body, next })?;
+            begin_for(frames, Frame::ForBody { room, looping }, room, script)
         }
         Verdict::NoMore => Ok(Now::Ends {
             code: Code::Normal,
@@ -137,31 +137,31 @@ fn test_items<K: Drop>(
     }
 }
 
-/// A loop tests whether it has another turn.
+/// A loop tests whether it has another iteration.
 pub fn test<K: Drop>(
     alloc: Global,
     scopes: &mut Scopes,
     context: &Context,
     frames: &mut Vec<Frame<K>>,
-    turning: Looping,
+    looping: Looping,
     room: u64,
 ) -> Next<K>
-    ensures { IfOk result (λ now. Leads (test_move room turning scopes.old context.now (waits_of frames.old.items) turning.test)
+    ensures { IfOk result (λ now. Leads (test_move room looping scopes.old context.now (waits_of frames.old.items) looping.test)
         (standing_of now frames.new.items scopes.new context.now)) }
 {
-    match &turning.get().test {
+    match &looping.get().test {
         Test::Holds(expression) => {
             let level = context.levels.here(scopes);
             match open_condition(alloc, scopes, level, expression, room)? {
-                Condition::Known(holds) => turn_by(frames, room, turning, holds),
+                Condition::Known(holds) => iteration_by(frames, room, looping, holds),
                 Condition::Begins(now) => {
-                    wait(frames, Frame::ForTest { room, turning })?;
+                    wait(frames, Frame::ForTest { room, looping })?;
                     Ok(now)
                 }
             }
         }
         Test::Items(_) => {
-            let Turning { test, body, next } = turning.into_inner();
+            let Loop { test, body, next } = looping.into_inner();
             match test {
                 Test::Items(groups) => {
                     test_items(alloc, scopes, context, frames, groups, body, next, room)

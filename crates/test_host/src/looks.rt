@@ -20,7 +20,7 @@ fn window_told(alloc: Global, window: Option<&Window>) -> Result<String> {
     let Some(window) = window else {
         return text_told(alloc, None);
     };
-    let (path, class, place) = (window.path.as_str(), window.kind.class(), window.place);
+    let (path, class, place) = (window.path.as_str(), window.kind.class(), window.rectangle);
     let corner = format!(in alloc; "{path} {class} {} {}", place.x, place.y)?;
     let corner = corner.as_str();
     Ok(format!(in alloc;

@@ -9,13 +9,14 @@ use Rattle.tk_commands.specs.Course.{with_end}
 use Rattle.tk_app.specs.declared.state.AppState.{AppState}
 use Rattle.tk_app.specs.declared.state.AppState.TheVariants.{Running, Exhausted, Closed}
 use Rattle.tk_app.specs.Application.{Application}
-use Rattle.tk_app.specs.Dispatch.{Continuation, global_meaning, in_panel}
+use Rattle.tk_app.specs.Commands.{scripts_in}
+use Rattle.tk_app.specs.Dispatch.{Continuation, global_meaning, with_panel_but_moment}
 use Rattle.tk_app.specs.Moments.{after_outcome, settled, settled_as, settled_by, started, started_by, state_at}
 use Rattle.tk_app.specs.Seen.{Meaning, Seen}
 use Rattle.tk_app.specs.Settle.{IsSettle, IsSoundIn, after_script, settle_meaning, start_meaning}
 use Rattle.tk_app.specs.Sound.{BySettle, EndsSound, RunsSound}
+use Rattle.tk_app.proofs.ByEquations.{keeps_sound}
 use Rattle.tk_app.proofs.Only.{only_settle}
-use Rattle.tk_app.proofs.Sound.{keeps_sound}
 use Rattle.tk_app.proofs.Trees.{end_screen}
 
 -- what comes behind something that ends so is the same where it is so in each such state
@@ -30,9 +31,9 @@ module _ (settle : Continuation) (meets : IsSettle settle) where
 
   start_same : (script : List ℕ) (state : State Seen) → IsSoundIn state → start_meaning settle_meaning script state ≡ start_meaning settle script state
   start_same script state sound =
-      then_same (global_meaning 200 script state) (after_script settle_meaning) (after_script settle) ((keeps_sound 200 state sound).0 script)
+      then_same (global_meaning (scripts_in 200) script state) (after_script settle_meaning) (after_script settle) ((keeps_sound 200 state sound).0 script)
       (λ left code text kept.
-      same (in_panel (with_end (out_of_global code) text left.shows.panel) left)
+      same (with_panel_but_moment (with_end (out_of_global code) text left.shows.panel) left)
       (subst (λ (windowing : Windowing). IsSound windowing.tree) (sym (end_screen (out_of_global code) text left.shows.panel)) kept))
 
   module _ {M : Type 0} (answer : M → Meaning) where

@@ -40,7 +40,6 @@ use Rattle.tk_options.specs.declared.settings.Setting.{Setting}
 use Rattle.tk_options.specs.Options.{settings}
 use Rattle.tk_options.specs.Rows.{options_of}
 use Rattle.tk_pack_commands.specs.Targets.{begins_path}
-use Rattle.tk_panel.specs.Choice.{chosen}
 use Rattle.tk_panel.specs.Commands.{put_to, puts_words}
 use Rattle.tk_panel.specs.Panel.{Panel}
 use Rattle.tk_screen.specs.Changes.{changed, changed_after, wrote}
@@ -84,7 +83,6 @@ use Rattle.tk_commands.specs.Dispatch.{generated_by_when, dispatched_if, generat
 use Rattle.tk_commands.specs.Moment.{moment_command_done}
 use Rattle.tk_commands.specs.Path.{path_told}
 use Rattle.tk_commands.specs.Screen.{screen_command_done}
-use Rattle.tk_app.proofs.Panels.{chosen_screen}
 use Rattle.tk_app.proofs.Trees.{Acts, HoldsOfActs, by_screen}
 
 -- ── what leaves the windows ──
@@ -285,15 +283,12 @@ module _ (Q : Tree → Tree → Type 0) (acts : HoldsOfActs Q) where
       by None = acts.same tree
   bindtags_does (path ∷ list ∷ word ∷ words) tree = acts.same tree
 
-  chosen_does : (event : Event) (panel : Panel) → Does panel (chosen event panel).0
-  chosen_does event panel = by_screen Q acts panel (chosen event panel).0 (chosen_screen event panel)
-
   generate_does : (words : List (List ℕ)) (panel : Panel) → Does panel (generate_told words panel).panel
   unfolding generate_told
   generate_does words panel = by (generate_words words panel.input.focus (length panel.queue) panel.moment panel.windowing.tree)
     where
       arrives : (when : When) (event : Event) → Does panel (generated_by_when when event panel).panel
-      arrives Now event = chosen_does event panel
+      arrives Now event = acts.same panel.windowing.tree
       arrives Tail event = acts.same panel.windowing.tree
       arrives Head event = acts.same panel.windowing.tree
 
@@ -358,7 +353,7 @@ module _ (Q : Tree → Tree → Type 0) (acts : HoldsOfActs Q) where
   selection_does number panel = by (selection_of panel.moment (window_at number panel.windowing.tree))
     where
       by : (event : Option Event) → Does panel (dispatched_if event panel).panel
-      by (Some event) = chosen_does event panel
+      by (Some event) = acts.same panel.windowing.tree
       by None = acts.same panel.windowing.tree
 
   class_does : (command : ClassCommand) (words : List (List ℕ)) (panel : Panel) (store : Store) → Does panel (class_told command words panel store).panel

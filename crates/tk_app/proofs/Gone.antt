@@ -20,13 +20,16 @@ use Rattle.tk_tree.specs.Window.{number_of}
 use Rattle.tk_tree.proofs.Lists.{some_same}
 use Rattle.tk_panel.specs.declared.transcript.Stream.TheVariants.{Err as Errors}
 use Rattle.tk_panel.specs.Choice.{chosen}
-use Rattle.tk_panel.specs.Destroy.{all_dying, destroy_event, marked, removed, removed_at}
+use Rattle.tk_panel.specs.Destroy.{all_dying, destroy_event, doomed_by, marked, removed, removed_at}
 use Rattle.tk_panel.specs.Panel.{Panel}
 use Rattle.tk_panel.specs.Reports.{with_line}
 use Rattle.tk_app.specs.Destroy.{destroy_dispatched, destroy_meaning, windows_destroyed}
-use Rattle.tk_app.specs.Dispatch.{Continuation, after_bound, global_meaning, bound_meaning, with_shown}
+use Rattle.tk_app.specs.Dispatch.{Continuation, Run, after_bound, global_meaning, bound_meaning, with_whole_panel}
 use Rattle.tk_app.specs.Gone.{AreGone, DestroysAll, LeavesNone}
+use Rattle.tk_app.specs.Outside.{run_in}
 use Rattle.tk_app.specs.Seen.{Seen}
+use Rattle.tk_app.specs.Settle.{IsSoundIn}
+use Rattle.tk_app.proofs.Commands.{scripts_run}
 use Rattle.tk_app.proofs.Grows.{Grows, LivesIn, StaysAndGrows, Was, found_given, found_number, grow_acts, none_left}
 use Rattle.tk_app.proofs.Panels.{chosen_screen}
 use Rattle.tk_app.proofs.PostOrder.{Among, Member, Ordered, is_child, post_ordered, pushed}
@@ -122,20 +125,20 @@ module _ (room : ℕ) (all : List ℕ) where
   good_stepped (suc left) state f rest = rest left
 
   good_bound : (first : Tree) (behind : Continuation) → ((left : State Seen) → From first left.shows → Good (behind left)) → (scripts : List (List ℕ)) (state : State Seen) → From first state.shows
-      → Good (bound_meaning room scripts behind state)
+      → Good (bound_meaning (run_in room) scripts behind state)
   good_bound first behind rest [] state since = rest state since
   good_bound first behind rest (script ∷ scripts) state since =
       good_stepped state.steps state
-      (λ begun. and_then (global_meaning room script begun) (λ left code text. after_bound room (bound_meaning room scripts behind) behind left (out_of_global code) text))
-      (λ steps. good_then first (global_meaning room script (record state { steps = steps }))
-      (λ left code text. after_bound room (bound_meaning room scripts behind) behind left (out_of_global code) text)
+      (λ begun. and_then (global_meaning (run_in room) script begun) (λ left code text. after_bound (run_in room) (bound_meaning (run_in room) scripts behind) behind left (out_of_global code) text))
+      (λ steps. good_then first (global_meaning (run_in room) script (record state { steps = steps }))
+      (λ left code text. after_bound (run_in room) (bound_meaning (run_in room) scripts behind) behind left (out_of_global code) text)
       (global_since StaysAndGrows grow_acts first room script (record state { steps = steps }) since)
       (λ left code text kept. by (good_bound first behind rest scripts) left (out_of_global code) text kept))
     where
-      by : ((left : State Seen) → From first left.shows → Good (bound_meaning room scripts behind left)) → (left : State Seen) (code : Code) (text : List ℕ) → From first left.shows
-          → Good (after_bound room (bound_meaning room scripts behind) behind left code text)
+      by : ((left : State Seen) → From first left.shows → Good (bound_meaning (run_in room) scripts behind left)) → (left : State Seen) (code : Code) (text : List ℕ) → From first left.shows
+          → Good (after_bound (run_in room) (bound_meaning (run_in room) scripts behind) behind left code text)
       by others left Normal text kept = others left kept
-      by others left Error text kept = rest (with_shown (with_line Errors text left.shows.panel) left) kept
+      by others left Error text kept = rest (with_whole_panel (with_line Errors text left.shows.panel) left) kept
       by others left (Return code) text kept = others left kept
       by others left Break text kept = rest left kept
       by others left Continue text kept = others left kept
@@ -187,15 +190,15 @@ module _ (room : ℕ) (all : List ℕ) where
 
     -- one window, where those behind it go so
     good_window : (n : ℕ) (ns done : List ℕ) (behind : Continuation) → HasOnly n done → n < first.next_number → ((window : Window) → window_at n first ≡ Some window → window.dying ≡ true)
-        → ((state : State Seen) → From first state.shows → AllGone (n ∷ done) state.shows.panel.windowing.tree → Good (windows_destroyed room ns behind state))
-        → (state : State Seen) → From first state.shows → AllGone done state.shows.panel.windowing.tree → Good (windows_destroyed room (n ∷ ns) behind state)
+        → ((state : State Seen) → From first state.shows → AllGone (n ∷ done) state.shows.panel.windowing.tree → Good (windows_destroyed (run_in room) ns behind state))
+        → (state : State Seen) → From first state.shows → AllGone done state.shows.panel.windowing.tree → Good (windows_destroyed (run_in room) (n ∷ ns) behind state)
     good_window n ns done behind only given dead rest state since gone = by (window_at n here)
       where
         here : Tree
         here = state.shows.panel.windowing.tree
 
         behind_it : Continuation
-        behind_it left = windows_destroyed room ns behind (with_shown (removed n left.shows.panel) left)
+        behind_it left = windows_destroyed (run_in room) ns behind (with_whole_panel (removed n left.shows.panel) left)
 
         next : (left : State Seen) → From here left.shows → Good (behind_it left)
         next left later =
@@ -208,7 +211,7 @@ module _ (room : ℕ) (all : List ℕ) where
             let sound_now : IsSound now = (later here_sound).0 in
             let grown : Grows now after.windowing.tree = (acts sound_now).1 in
             let first_now : Grows first now = (from_first sound).1 in
-            rest (with_shown after left) (on_from first left.shows.panel after from_first acts) (
+            rest (with_whole_panel after left) (on_from first left.shows.panel after from_first acts) (
               record {
                 given = omega (arith, given, first_now.numbers, grown.numbers);
                 none = goes n left.shows.panel (no_children n done only given dead now sound_now first_now gone_now);
@@ -216,16 +219,16 @@ module _ (room : ℕ) (all : List ℕ) where
               all_stay done now after.windowing.tree grown gone_now,
             )
 
-        by : (window : Option Window) → Good (destroy_dispatched room window behind_it state)
+        by : (window : Option Window) → Good (destroy_dispatched (run_in room) window behind_it state)
         by None = next state (grow_acts.same here)
         by (Some window) =
             let event : Event = destroy_event window state.shows.panel.moment in
             let there : Panel × List (List ℕ) = chosen event state.shows.panel in
-            good_bound here behind_it next there.1 (with_shown there.0 state) (by_screen StaysAndGrows grow_acts state.shows.panel there.0 (chosen_screen event state.shows.panel))
+            good_bound here behind_it next there.1 (with_whole_panel there.0 state) (by_screen StaysAndGrows grow_acts state.shows.panel there.0 (chosen_screen event state.shows.panel))
 
     good_windows : (ns done : List ℕ) (behind : Continuation) → AllDoomed ns → AllHave done ns
         → ((left : State Seen) → From first left.shows → AllGone (pushed ns done) left.shows.panel.windowing.tree → Good (behind left))
-        → (state : State Seen) → From first state.shows → AllGone done state.shows.panel.windowing.tree → Good (windows_destroyed room ns behind state)
+        → (state : State Seen) → From first state.shows → AllGone done state.shows.panel.windowing.tree → Good (windows_destroyed (run_in room) ns behind state)
     good_windows [] done behind doomed have rest state since gone = rest state since gone
     good_windows (n ∷ ns) done behind doomed have rest state since gone =
         good_window n ns done behind have.0 doomed.0 doomed.1 (good_windows ns (n ∷ done) behind doomed.2 have.1 rest) state since gone
@@ -349,21 +352,21 @@ module _ (room : ℕ) (state : State Seen) (sound : IsSound state.shows.panel.wi
   all_have [] done ordered = tt
   all_have (n ∷ ns) done ordered = (has_only n done ordered.0, all_have ns (n ∷ done) ordered.1)
 
-  all_gone : LeavesNone numbers (windows_destroyed room numbers (destroy_meaning room []) (with_shown (marked numbers state.shows.panel) state))
+  all_gone : LeavesNone numbers (windows_destroyed (run_in room) numbers (destroy_meaning (run_in room) []) (with_whole_panel (marked numbers state.shows.panel) state))
   all_gone =
-      good_windows room numbers first marks.0 numbers [] (destroy_meaning room []) (all_doomed numbers (λ n among. among))
+      good_windows room numbers first marks.0 numbers [] (destroy_meaning (run_in room) []) (all_doomed numbers (λ n among. among))
       (all_have numbers [] (post_ordered tree.windows sound.rising sound.parents number))
       (λ left since gone. none_of numbers left.shows.panel.windowing.tree (λ n among. gone_among n (pushed numbers []) left.shows.panel.windowing.tree gone (all_pushed n numbers [] among)))
-      (with_shown (marked numbers state.shows.panel) state) (grow_acts.same first) tt
+      (with_whole_panel (marked numbers state.shows.panel) state) (grow_acts.same first) tt
 
-pub destroys_all : DestroysAll
-destroys_all room path state sound = by_path (at_path path state.shows.panel.windowing.tree) refl
+destroys_run : (room : ℕ) (path : List ℕ) (state : State Seen) → IsSoundIn state → LeavesNone (doomed_by path state.shows.panel) (destroy_meaning (run_in room) (path ∷ []) state)
+destroys_run room path state sound = by_path (at_path path state.shows.panel.windowing.tree) refl
   where
     tree : Tree
     tree = state.shows.panel.windowing.tree
 
     Gone : List ℕ → Type 0
-    Gone numbers = LeavesNone numbers (windows_destroyed room numbers (destroy_meaning room []) (with_shown (marked numbers state.shows.panel) state))
+    Gone numbers = LeavesNone numbers (windows_destroyed (run_in room) numbers (destroy_meaning (run_in room) []) (with_whole_panel (marked numbers state.shows.panel) state))
 
     by_dying : (number : ℕ) (window : Window) → window_at number tree ≡ Some window → (b : Bool) → Gone (cond b [] (post_order number tree))
     by_dying number window there true = tt
@@ -372,3 +375,7 @@ destroys_all room path state sound = by_path (at_path path state.shows.panel.win
     by_path : (found : Option Window) → at_path path tree ≡ found → Gone (option_map_or (λ w. cond w.dying [] (post_order w.number tree)) found [])
     by_path None is = tt
     by_path (Some window) is = by_dying window.number window (member_found window tree sound (found_member (λ (w : Window). bytes_eq path w.path) tree.windows window is)) window.dying
+
+pub destroys_all : DestroysAll
+destroys_all room path state sound =
+    subst (λ (run : Run). LeavesNone (doomed_by path state.shows.panel) (destroy_meaning run (path ∷ []) state)) (sym (scripts_run room)) (destroys_run room path state sound)

@@ -24,11 +24,13 @@ use Rattle.tk_panel.specs.Panel.{Panel}
 use Rattle.tk_panel.specs.Settle.{Next, after_layout, after_round, at_home, drained, idle_round, is_closed, is_due, on_event, on_round, on_timer, queue_or_round, still_waiting, turn}
 use Rattle.tk_commands.specs.Course.{looked_of}
 use Rattle.tk_commands.specs.Rests.{is_empty, rest_settles, settles_last}
+use Rattle.tk_app.specs.Commands.{scripts_in}
 use Rattle.tk_app.specs.Outside.{calls, course}
 use Rattle.tk_app.specs.Seen.{Seen}
 use Rattle.tk_app.specs.Items.{on_idle, on_layout, on_queue, on_timer as timer_item}
 use Rattle.tk_app.specs.Settle.{EndsLaidOut, SettlesTwice, settle_meaning, settling}
-use Rattle.tk_app.proofs.Equations.{none_due, settles_all}
+use Rattle.tk_app.proofs.ByEquations.{settles_all}
+use Rattle.tk_app.proofs.Equations.{none_due}
 use Rattle.tk_app.proofs.Homes.{keeps}
 use Rattle.tk_app.proofs.Panels.{drained_screen, laid_screen, nothing_again}
 use Rattle.tk_app.proofs.Settled.{Quiet, quiet_settle}
@@ -145,8 +147,8 @@ settles_twice state after code text is sound = by (is_closed after.shows.panel) 
         let left : empty && (early && idle) ≡ true = rw held at quiet in
         settles_all after sound
         ∙ rw held refl
-        ∙ ap (λ queue. on_queue 200 queue settle_meaning after) (no_more panel.queue (one_so empty (early && idle) left))
-        ∙ ap (λ first. timer_item 200 first settle_meaning after)
+        ∙ ap (λ queue. on_queue (scripts_in 200) queue settle_meaning after) (no_more panel.queue (one_so empty (early && idle) left))
+        ∙ ap (λ first. timer_item (scripts_in 200) first settle_meaning after)
         (none_due panel.moment panel.timers.entries (not_so (is_due panel.moment panel.timers.entries) (one_so early idle (other_so empty (early && idle) left))))
-        ∙ ap (λ changes. on_layout 200 changes settle_meaning after) (ends_laid_out state after code text is sound held)
-        ∙ ap (λ ids. on_idle 200 ids settle_meaning after) (no_more (idle_ids panel.timers.entries) (other_so early idle (other_so empty (early && idle) left)))
+        ∙ ap (λ changes. on_layout (scripts_in 200) changes settle_meaning after) (ends_laid_out state after code text is sound held)
+        ∙ ap (λ ids. on_idle (scripts_in 200) ids settle_meaning after) (no_more (idle_ids panel.timers.entries) (other_so early idle (other_so empty (early && idle) left)))

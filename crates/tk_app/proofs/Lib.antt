@@ -3,8 +3,11 @@ mod Adding
 mod Alone
 mod Beginnings
 mod Begun
+mod ByEquations
 pub mod BySettle
+mod CommandMoments
 mod CommandTrees
+mod Commands
 mod Equations
 mod Events
 mod Gone
@@ -12,6 +15,7 @@ mod Grows
 mod Homes
 mod LaidOut
 mod Left
+mod Nexts
 mod Only
 mod Panels
 pub mod Parts

@@ -1,18 +1,11 @@
 -- What a part comes to, by what is done at a moment.
-use Rattle.std.proofs.Common.{◌≡◌, ℕ, List, [], refl, ap, ◌∙◌}
-use Rattle.std.specs.Prelude.{Option, Some, None}
+use Rattle.std.proofs.Common.{◌≡◌, ℕ, List, [], refl, sym, ap, ◌∙◌}
 use Rattle.tcl_control.specs.declared.code.Code.TheVariants.{Normal}
 use Rattle.tcl_interp.specs.Evaluation.{State, Outcome, Ended, OutOfSteps, and_then}
-use Rattle.tcl_interp.specs.Scripts.{script_meaning, task_meaning}
+use Rattle.tcl_interp.specs.Acts.{script_meaning, task_meaning}
 use Rattle.tcl_interp.specs.Finish.{waits_meaning}
 use Rattle.tcl_interp.specs.declared.job.Task.TheVariants as task
-use Rattle.tcl_interp.specs.JobLaws.{runs}
-use Rattle.tcl_interp.specs.Meaning.{looked}
 use Rattle.tcl_interp.proofs.Unrolled as jobs
-use Rattle.tk_panel.specs.declared.job.Job.{Job}
-use Rattle.tk_panel.specs.Next.{next}
-use Rattle.tk_panel.specs.Settle.{Next}
-use Rattle.tk_commands.specs.Course.{looked_of}
 use Rattle.tk_app.specs.declared.state.AppState.{AppState}
 use Rattle.tk_app.specs.declared.state.AppState.TheVariants.{Running, Exhausted, Closed}
 use Rattle.tk_app.specs.Application.{Application, fresh}
@@ -20,9 +13,9 @@ use Rattle.tk_app.specs.Outside.{calls, course, outside}
 use Rattle.tk_app.specs.Moments.{after_outcome, settled_as, settled_by, started_by, state_at}
 use Rattle.tk_app.specs.Part.{Rests, BeginsWithScript, SettlesFromRest, done_as, settling_as, stage_done}
 use Rattle.tk_app.specs.Seen.{Meaning, Seen}
-use Rattle.tk_app.specs.Dispatch.{in_panel}
-use Rattle.tk_app.specs.Jobs.{GoesByNext, meaning, on_next}
-use Rattle.tk_app.specs.Settle.{settle_meaning, settling, start_meaning}
+use Rattle.tk_app.specs.Dispatch.{Run, global_meaning}
+use Rattle.tk_app.specs.Settle.{after_script, settle_meaning, settling, start_meaning}
+use Rattle.tk_app.proofs.Commands.{scripts_run}
 
 -- nothing comes behind the end
 ended_alone : (outcome : Outcome Seen) → and_then outcome (waits_meaning outside []) ≡ outcome
@@ -37,17 +30,9 @@ settles state = (jobs.goes_on course calls 200 settling state Normal [] []).0
 -- the task of an application's own script comes to the script and what settling is
 pub starts : (script : List ℕ) (state : State Seen) → task_meaning outside (script_meaning outside 200) (task.Begins script settling) state Normal [] ≡ start_meaning settle_meaning script state
 unfolding settle_meaning
-starts script state = (jobs.goes_on course calls 200 settling state Normal [] script).1
-
--- what is next of a job, where it ends or takes a step
-by_next : (room : ℕ) (job : Option Job) (state : State Seen) → looked course (runs course calls room) (meaning room) (looked_of job) state ≡ on_next room state job
-by_next room None state = refl
-by_next room (Some job) state = refl
-
-pub goes_by_next : GoesByNext
-goes_by_next room job state =
-    let there : Next = next job state.store state.shows.panel in
-    jobs.unrolls course calls room job state ∙ by_next room there.1 (in_panel there.0 state)
+starts script state =
+    (jobs.goes_on course calls 200 settling state Normal [] script).1
+    ∙ ap (λ (run : Run). and_then (global_meaning run script state) (after_script settle_meaning)) (sym (scripts_run 200))
 
 module _ {M : Type 0} (answer : M → Meaning) where
   from_rest : (s : AppState) (moment : ℕ) (application : Application M) → application.state ≡ s

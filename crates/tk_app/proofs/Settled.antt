@@ -35,11 +35,13 @@ use Rattle.tk_app.specs.Dues.{DueTakesAStep, SettledIsPast, StartedIsPast}
 use Rattle.tk_app.specs.Outside.{calls, called_as, alias_act, course, outside}
 use Rattle.tk_app.specs.Moments.{after_outcome, settled, settled_as, settled_by, started_by, state_after, state_at}
 use Rattle.tk_app.specs.Seen.{Meaning, Seen}
-use Rattle.tk_app.specs.Dispatch.{global_meaning, in_panel}
+use Rattle.tk_app.specs.Commands.{scripts_in}
+use Rattle.tk_app.specs.Dispatch.{global_meaning, with_panel_but_moment}
 use Rattle.tk_app.specs.Jobs.{comes_next}
 use Rattle.tk_app.specs.Settle.{after_script, settle_meaning, settling, start_meaning}
 use Rattle.tk_app.proofs.Homes.{keeps, look_stays, looked_last}
-use Rattle.tk_app.proofs.Parts.{goes_by_next, settles, starts}
+use Rattle.tk_app.proofs.Nexts.{goes_by_next}
+use Rattle.tk_app.proofs.Parts.{settles, starts}
 
 -- ── the moment stays ──
 
@@ -98,10 +100,10 @@ quiet_settle state = by (settle_meaning state) refl
     by (OutOfSteps after) is = tt
 
 quiet_start : (script : List ℕ) (state : State Seen) → Quiet (start_meaning settle_meaning script state)
-quiet_start script state = by (global_meaning 200 script state)
+quiet_start script state = by (global_meaning (scripts_in 200) script state)
   where
     by : (o : Outcome Seen) → Quiet (and_then o (after_script settle_meaning))
-    by (Ended left code text) = quiet_settle (in_panel (with_end (out_of_global code) text left.shows.panel) left)
+    by (Ended left code text) = quiet_settle (with_panel_but_moment (with_end (out_of_global code) text left.shows.panel) left)
     by (OutOfSteps left) = tt
 
 -- ── so nothing is due ──

@@ -12,18 +12,20 @@ use Rattle.tcl_interp.specs.declared.job.Task.{Task}
 use Rattle.tcl_interp.specs.declared.job.Task.TheVariants.{Begins, Waits, Runs, Invoked}
 use Rattle.tcl_interp.specs.declared.tasks.Act.{Act}
 use Rattle.tcl_interp.specs.Evaluation.{State, Outcome, Ended, OutOfSteps}
-use Rattle.tcl_interp.specs.Scripts.{script_meaning}
 use Rattle.tcl_interp.proofs.Kept.{Keeps, Kept, kept_run_at, kept_script, kept_task}
 use Rattle.tcl_interp.proofs.Unrolled as jobs
 use Rattle.tk_base.specs.Bag.{AllAbove, AllBelow, IsRising}
 use Rattle.tk_panel.specs.declared.job.Job.{Job}
 use Rattle.tk_panel.specs.declared.job.Rest.{Rest}
+use Rattle.tk_panel.specs.Choice.{chosen}
 use Rattle.tk_panel.specs.Next.{next}
 use Rattle.tk_panel.specs.Panel.{Panel}
 use Rattle.tk_panel.specs.Start.{start}
 use Rattle.tk_commands.specs.Calls.{calls as panel_calls, outcome_told}
 use Rattle.tk_commands.specs.Commands.{panel_command}
-use Rattle.tk_commands.specs.Course.{ended as panel_ended}
+use Rattle.tk_commands.specs.Course.{ended as panel_ended, job_of}
+use Rattle.tk_commands.specs.declared.outcome.Begun.{Begun}
+use Rattle.tk_commands.specs.declared.outcome.Begun.TheVariants.{Updates, UpdatesIdleTasks, Destroys, Dispatches}
 use Rattle.tk_commands.specs.declared.outcome.CommandOutcome.{CommandOutcome}
 use Rattle.tk_commands.specs.declared.outcome.CommandOutcome.TheVariants as outcome
 use Rattle.tk_commands.specs.Outcomes.{Done}
@@ -37,11 +39,13 @@ use Rattle.tk_tree.specs.Window.{new_window, number_of}
 use Rattle.tk_tree.proofs.Lists.{below_more, find_below, parents_more, rising_more}
 use Rattle.tk_app.specs.Dispatch.{global_meaning}
 use Rattle.tk_app.specs.Jobs.{meaning}
-use Rattle.tk_app.specs.Outside.{alias_act, called_as, calls, course, outside}
+use Rattle.tk_app.specs.Outside.{alias_act, called_as, calls, course, outside, run_in}
 use Rattle.tk_app.specs.Seen.{Seen}
-use Rattle.tk_app.specs.Sound.{EndsSound, KeepsSound}
+use Rattle.tk_app.specs.Settle.{IsSoundIn}
+use Rattle.tk_app.specs.Sound.{EndsSound}
 use Rattle.tk_app.proofs.CommandTrees.{command_acts}
-use Rattle.tk_app.proofs.Trees.{Acts, HoldsOfActs, KeepsPlace, both, ended_acts, next_acts, start_acts}
+use Rattle.tk_app.proofs.Panels.{chosen_screen}
+use Rattle.tk_app.proofs.Trees.{Acts, HoldsOfActs, KeepsPlace, both, by_screen, ended_acts, next_acts, start_acts}
 
 -- ── scripts and jobs do what holds of their acts ──
 
@@ -53,9 +57,17 @@ module _ (Q : Tree → Tree → Type 0) (acts : HoldsOfActs Q) (first : Tree) wh
   on : (old new : Panel) → Q first old.windowing.tree → Acts Q acts old new → Q first new.windowing.tree
   on old new since done = acts.after first old.windowing.tree new.windowing.tree since done
 
+  begun_acts : (begun : Begun) (panel : Panel) → Acts Q acts panel (job_of begun panel).0
+  begun_acts Updates panel = acts.same panel.windowing.tree
+  begun_acts UpdatesIdleTasks panel = acts.same panel.windowing.tree
+  begun_acts (Destroys paths) panel = acts.same panel.windowing.tree
+  begun_acts (Dispatches event) panel = by_screen Q acts panel (chosen event panel).0 (chosen_screen event panel)
+
   told_acts : (came : CommandOutcome) (panel : Panel) (store : Store) → Acts Q acts panel (outcome_told came panel store).shows
   told_acts (outcome.Acts act) panel store = acts.same panel.windowing.tree
-  told_acts (outcome.Begins job) panel store = next_acts Q acts job store panel
+  told_acts (outcome.Begins begun) panel store =
+      let there : Panel × Job = job_of begun panel in
+      both Q acts panel there.0 (next there.1 store there.0).0 (begun_acts begun panel) (next_acts Q acts there.1 store there.0)
   told_acts outcome.Unknown panel store = acts.same panel.windowing.tree
 
   called_acts : (panel : Panel) (store : Store) (words : List (List ℕ)) → Acts Q acts panel (panel_calls panel store words).shows
@@ -84,11 +96,11 @@ module _ (Q : Tree → Tree → Type 0) (acts : HoldsOfActs Q) (first : Tree) wh
   keeps : Keeps Since outside
   keeps = (call_since, task_since)
 
-  pub script_since : (room : ℕ) (script : List ℕ) (state : State Seen) → Since state.shows → Kept Since (script_meaning outside room script state)
+  pub script_since : (room : ℕ) (script : List ℕ) (state : State Seen) → Since state.shows → Kept Since (run_in room script state)
   script_since room script state since = kept_script Since outside keeps room script state since
 
-  pub global_since : (room : ℕ) (script : List ℕ) (state : State Seen) → Since state.shows → Kept Since (global_meaning room script state)
-  global_since room script state since = kept_run_at Since (script_meaning outside room) (script_since room) 1 script state since
+  pub global_since : (room : ℕ) (script : List ℕ) (state : State Seen) → Since state.shows → Kept Since (global_meaning (run_in room) script state)
+  global_since room script state since = kept_run_at Since (run_in room) (script_since room) 1 script state since
 
   -- a job is where a task is that goes on with it
   job_ends : (event : Option (List (List ℕ))) (rest : Rest) (seen : Seen) → course.ended Normal [] seen (record { event = event; rest = rest }) ≡ (seen, record { event = event; rest = rest })
@@ -99,7 +111,7 @@ module _ (Q : Tree → Tree → Type 0) (acts : HoldsOfActs Q) (first : Tree) wh
   job_since room job state since =
       let done = λ (there : Seen × Job). meaning room there.1 (record state { shows = there.0 }) in
       subst (Kept Since) ((jobs.goes_on course calls room job state Normal [] []).0 ∙ ap done (job_ends job.event job.rest state.shows))
-      (kept_task Since outside keeps (script_meaning outside room) (script_since room) (Runs job) state Normal [] since)
+      (kept_task Since outside keeps (run_in room) (script_since room) (Runs job) state Normal [] since)
 
 -- ── numbers, and older parents ──
 
@@ -263,9 +275,12 @@ ends_sound : (first : Tree) (outcome : Outcome Seen) → IsSound first → Kept 
 ends_sound first (Ended state code text) sound kept = kept sound
 ends_sound first (OutOfSteps state) sound kept = tt
 
-pub keeps_sound : KeepsSound
-keeps_sound room state sound =
-    let first : Tree = state.shows.panel.windowing.tree in (
-      (λ script. ends_sound first (global_meaning room script state) sound (global_since StaysSound sound_acts first room script state (λ same. same))),
-      (λ job. ends_sound first (meaning room job state) sound (job_since StaysSound sound_acts first room job state (λ same. same))),
-    )
+pub scripts_sound : (room : ℕ) (state : State Seen) → IsSoundIn state → (script : List ℕ) → EndsSound (global_meaning (run_in room) script state)
+scripts_sound room state sound script =
+    let first : Tree = state.shows.panel.windowing.tree in
+    ends_sound first (global_meaning (run_in room) script state) sound (global_since StaysSound sound_acts first room script state (λ same. same))
+
+pub jobs_sound : (room : ℕ) (state : State Seen) → IsSoundIn state → (job : Job) → EndsSound (meaning room job state)
+jobs_sound room state sound job =
+    let first : Tree = state.shows.panel.windowing.tree in
+    ends_sound first (meaning room job state) sound (job_since StaysSound sound_acts first room job state (λ same. same))

@@ -16,12 +16,13 @@ use Rattle.tk_commands.specs.Course.{with_end}
 use Rattle.tk_app.specs.declared.state.AppState.{AppState}
 use Rattle.tk_app.specs.declared.state.AppState.TheVariants.{Running, Exhausted, Closed}
 use Rattle.tk_app.specs.Application.{Application, panel_at}
-use Rattle.tk_app.specs.Dispatch.{global_meaning, in_panel}
+use Rattle.tk_app.specs.Commands.{scripts_in}
+use Rattle.tk_app.specs.Dispatch.{global_meaning, with_panel_but_moment}
 use Rattle.tk_app.specs.Moments.{after_outcome, delivered, delivered_as, settled, settled_as, settled_by, started, started_by, state_at}
 use Rattle.tk_app.specs.Seen.{Meaning, Seen}
 use Rattle.tk_app.specs.Settle.{IsSoundIn, after_script, settle_meaning, settling, start_meaning}
 use Rattle.tk_app.specs.Sound.{EndsSound, RunsSound, StaysSound}
-use Rattle.tk_app.proofs.Sound.{keeps_sound}
+use Rattle.tk_app.proofs.ByEquations.{keeps_sound}
 use Rattle.tk_app.proofs.Trees.{end_screen}
 
 -- what comes behind something that ends so, where it ends so in each such state
@@ -33,9 +34,9 @@ then_sound (OutOfSteps state) f kept rest = tt
 start_sound : (script : List ℕ) (state : State Seen) → IsSoundIn state → EndsSound (start_meaning settle_meaning script state)
 unfolding settle_meaning
 start_sound script state sound =
-    then_sound (global_meaning 200 script state) (after_script settle_meaning) ((keeps_sound 200 state sound).0 script)
+    then_sound (global_meaning (scripts_in 200) script state) (after_script settle_meaning) ((keeps_sound 200 state sound).0 script)
     (λ left code text kept.
-    (keeps_sound 200 (in_panel (with_end (out_of_global code) text left.shows.panel) left)
+    (keeps_sound 200 (with_panel_but_moment (with_end (out_of_global code) text left.shows.panel) left)
     (subst (λ (windowing : Windowing). IsSound windowing.tree) (sym (end_screen (out_of_global code) text left.shows.panel)) kept)).1 settling)
 
 rectangle_tree : (kind : LocalKind) (panel : Panel) → (with_rectangle kind panel).windowing.tree ≡ panel.windowing.tree

@@ -97,7 +97,7 @@ module _ (Q : Tree → Tree → Type 0) (acts : HoldsOfActs Q) where
   mapped : (number : ℕ) (is_mapped : Bool) (found : Option Window) (tree : Tree) → Q tree (mapped_as number is_mapped found tree)
   mapped number is_mapped None tree = acts.same tree
   mapped number is_mapped (Some window) tree =
-      acts.changed number (with_place window.place is_mapped) tree (record { number = λ w. refl; parent = λ w. refl; dying = λ w is. is })
+      acts.changed number (with_place window.rectangle is_mapped) tree (record { number = λ w. refl; parent = λ w. refl; dying = λ w is. is })
 
   placed : (number : ℕ) (place : Rect) (found : Option Window) (tree : Tree) → Q tree (placed_at number place found tree)
   placed number place None tree = acts.same tree

@@ -4,38 +4,41 @@ use Rattle.tcl_control.specs.declared.code.Code.{Code}
 use Rattle.tcl_control.specs.declared.code.Code.TheVariants.{Normal, Error, Return, Break, Continue}
 use Rattle.tcl_interp.specs.Evaluation.{State, Outcome, and_then, with_step}
 use Rattle.tcl_interp.specs.Plans.{run_at}
-use Rattle.tcl_interp.specs.Scripts.{out_of_global, script_meaning}
+use Rattle.tcl_interp.specs.Scripts.{out_of_global}
 use Rattle.tk_sequences.specs.declared.event.Event.{Event}
 use Rattle.tk_panel.specs.declared.transcript.Stream.TheVariants.{Err as Errors}
 use Rattle.tk_panel.specs.Choice.{chosen}
 use Rattle.tk_panel.specs.Panel.{Panel}
 use Rattle.tk_panel.specs.Reports.{with_line}
-use Rattle.tk_app.specs.Outside.{outside}
 use Rattle.tk_app.specs.Seen.{Seen, seen_with_panel}
 
 -- the state with another panel
-abbrev pub with_shown : Panel → State Seen → State Seen
-with_shown panel state = record state { shows = record state.shows { panel = panel } }
+abbrev pub with_whole_panel : Panel → State Seen → State Seen
+with_whole_panel panel state = record state { shows = record state.shows { panel = panel } }
 
 -- the state with another panel, at the moment that it has
-abbrev pub in_panel : Panel → State Seen → State Seen
-in_panel panel state = record state { shows = seen_with_panel panel state.shows }
+abbrev pub with_panel_but_moment : Panel → State Seen → State Seen
+with_panel_but_moment panel state = record state { shows = seen_with_panel panel state.shows }
 
 -- what is done behind something, with the state that is left
 abbrev pub Continuation : Type 0
 Continuation = State Seen → Outcome Seen
 
--- with room for so many scripts one in another
-module _ (room : ℕ) where
+-- how a script is run
+abbrev pub Run : Type 0
+Run = List ℕ → State Seen → Outcome Seen
+
+-- How scripts are run is given.
+module _ (run : Run) where
   -- what a script comes to at global level: it sees the global frame alone, and the other levels are back behind it
   abbrev pub global_meaning : List ℕ → State Seen → Outcome Seen
-  global_meaning script state = run_at (script_meaning outside room) 1 script state
+  global_meaning script state = run_at run 1 script state
 
   -- How a bound script has ended: at its end, and by a return or a continue, the others follow. A break ends the event, and so does an error, which
   -- is told.
   abbrev pub after_bound : Continuation → Continuation → State Seen → Code → List ℕ → Outcome Seen
   after_bound others behind state Normal text = others state
-  after_bound others behind state Error text = behind (with_shown (with_line Errors text state.shows.panel) state)
+  after_bound others behind state Error text = behind (with_whole_panel (with_line Errors text state.shows.panel) state)
   after_bound others behind state (Return code) text = others state
   after_bound others behind state Break text = behind state
   after_bound others behind state Continue text = others state
@@ -50,4 +53,4 @@ module _ (room : ℕ) where
   -- run in order. Where a substitution is refused, that is told, the event enters the history all the same, and none runs. An event of a window that is
   -- gone is dropped.
   abbrev pub dispatch_meaning : Event → Continuation → Continuation
-  dispatch_meaning event behind state = (let there : Panel × List (List ℕ) = chosen event state.shows.panel in bound_meaning there.1 behind (with_shown there.0 state))
+  dispatch_meaning event behind state = (let there : Panel × List (List ℕ) = chosen event state.shows.panel in bound_meaning there.1 behind (with_whole_panel there.0 state))

@@ -12,19 +12,23 @@ use Rattle.tk_screen.specs.Layout.{changes_due}
 use Rattle.tk_panel.specs.Changes.{laid_out}
 use Rattle.tk_panel.specs.Panel.{Panel, is_closed, with_queue}
 use Rattle.tk_commands.specs.Ends.{with_end}
-use Rattle.tk_app.specs.Dispatch.{Continuation, global_meaning, dispatch_meaning, with_shown}
+use Rattle.tk_app.specs.Dispatch.{Continuation, Run, global_meaning, dispatch_meaning, with_whole_panel}
 
 -- a timer or an idle script leaves its table
 abbrev pub waiting_taken : ℕ → Panel → Panel
 waiting_taken id panel = record panel { timers = without id panel.timers }
 
--- with room for so many scripts one in another
-module _ (room : ℕ) where
+-- a layout, and the empty answer
+abbrev pub laid : Continuation
+laid state = Ended (with_whole_panel (laid_out state.store state.shows.panel) state) Normal []
+
+-- How scripts are run is given.
+module _ (run : Run) where
   -- a timer or an idle script whose step is taken leaves its table and runs at global level; an error is told
   abbrev pub waiting_meaning : ℕ → List ℕ → Continuation → Continuation
   waiting_meaning id script behind state =
-      and_then (global_meaning room script (with_shown (waiting_taken id state.shows.panel) state))
-      (λ left code text. behind (with_shown (with_end (out_of_global code) text left.shows.panel) left))
+      and_then (global_meaning run script (with_whole_panel (waiting_taken id state.shows.panel) state))
+      (λ left code text. behind (with_whole_panel (with_end (out_of_global code) text left.shows.panel) left))
 
   -- an idle script of a round, if it still waits
   abbrev pub idle_meaning : ℕ → Option WaitingScript → Continuation → Continuation
@@ -46,7 +50,7 @@ module _ (room : ℕ) where
   -- a layout that changes something: one act, without a step
   abbrev pub on_layout : List PlaceChange → Continuation → Continuation
   on_layout [] again state = on_idle (idle_ids state.shows.panel.timers.entries) again state
-  on_layout (change ∷ changes) again state = again (with_shown (laid_out state.store state.shows.panel) state)
+  on_layout (change ∷ changes) again state = again (with_whole_panel (laid_out state.store state.shows.panel) state)
 
   -- the timer that is due, the one that was due first
   abbrev pub on_timer : Option WaitingScript → Continuation → Continuation
@@ -56,7 +60,7 @@ module _ (room : ℕ) where
   -- the first of the events that are queued
   abbrev pub on_queue : List Event → Continuation → Continuation
   on_queue [] again state = on_timer (first_due state.shows.panel.moment state.shows.panel.timers.entries) again state
-  on_queue (event ∷ events) again state = dispatch_meaning room event again (with_shown (with_queue events state.shows.panel) state)
+  on_queue (event ∷ events) again state = dispatch_meaning run event again (with_whole_panel (with_queue events state.shows.panel) state)
 
   -- the first item that exists, and what comes again behind it; with no item all is done
   abbrev pub item_meaning : Continuation → Continuation
@@ -65,3 +69,10 @@ module _ (room : ℕ) where
   -- Where there is no main window nothing more is done, and what waits stays listed; the application is closed then (`state_after`).
   abbrev pub settle_item : Continuation → Continuation
   settle_item again state = if is_closed state.shows.panel then Ended state Normal [] else item_meaning again state
+
+  -- ── `update idletasks` ──
+
+  -- a layout, a round of the idle scripts that wait then, and a layout
+  abbrev pub idle_tasks_meaning : Continuation
+  idle_tasks_meaning state =
+      (let first : Panel = laid_out state.store state.shows.panel in round_meaning (idle_ids first.timers.entries) laid (with_whole_panel first state))

@@ -4,16 +4,20 @@ use Rattle.tcl_control.specs.declared.code.Code.{Code}
 use Rattle.tcl_control.specs.declared.code.Code.TheVariants.{Normal}
 use Rattle.tcl_interp.specs.Evaluation.{State, Outcome, Ended, and_then, with_step}
 use Rattle.tcl_interp.specs.Scripts.{out_of_global}
-use Rattle.tcl_interp.specs.Meaning.{job_meaning}
+use Rattle.tcl_interp.specs.Meaning.{job_by, job_meaning}
 use Rattle.tk_panel.specs.declared.job.Job.{Job}
 use Rattle.tk_panel.specs.Next.{next}
 use Rattle.tk_panel.specs.Panel.{Panel}
 use Rattle.tk_panel.specs.Settle.{Next}
 use Rattle.tk_panel.specs.Start.{start}
 use Rattle.tk_commands.specs.Course.{ended}
-use Rattle.tk_app.specs.Dispatch.{global_meaning, in_panel}
-use Rattle.tk_app.specs.Outside.{calls, course}
+use Rattle.tk_app.specs.Dispatch.{Run, global_meaning, with_panel_but_moment}
+use Rattle.tk_app.specs.Outside.{calls, course, run_in}
 use Rattle.tk_app.specs.Seen.{Seen}
+
+-- what a job comes to, where scripts are run so
+abbrev pub meaning_by : Run → Job → State Seen → Outcome Seen
+meaning_by run job state = job_by course calls run job state
 
 -- with room for so many scripts one in another
 module _ (room : ℕ) where
@@ -24,19 +28,19 @@ module _ (room : ℕ) where
   -- a script of a job has ended, and then the job goes on
   abbrev pub goes_on : Job → State Seen → Code → List ℕ → Outcome Seen
   goes_on job state code text =
-      (let there : Panel × Job = ended (out_of_global code) text state.shows.panel job in meaning there.1 (in_panel there.0 state))
+      (let there : Panel × Job = ended (out_of_global code) text state.shows.panel job in meaning there.1 (with_panel_but_moment there.0 state))
 
   -- the step of what is next is taken, it starts, and its script runs
   abbrev pub starts : Job → State Seen → Outcome Seen
   starts job state =
-      (let there : Panel × (List ℕ × Job) = start job state.shows.panel in and_then (global_meaning room there.1.0 (in_panel there.0 state)) (goes_on there.1.1))
+      (let there : Panel × (List ℕ × Job) = start job state.shows.panel in and_then (global_meaning (run_in room) there.1.0 (with_panel_but_moment there.0 state)) (goes_on there.1.1))
 
   abbrev pub on_next : State Seen → Option Job → Outcome Seen
   on_next state None = Ended state Normal []
   on_next state (Some job) = with_step state (starts job)
 
   abbrev pub comes_next : State Seen → Next → Outcome Seen
-  comes_next state there = on_next (in_panel there.0 state) there.1
+  comes_next state there = on_next (with_panel_but_moment there.0 state) there.1
 
 -- what a job comes to is what comes next of it
 abbrev pub GoesByNext : Type 0

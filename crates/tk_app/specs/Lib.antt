@@ -1,6 +1,7 @@
 -- What the contracts cite.
 pub mod Application
 pub mod Begun
+pub mod Commands
 pub mod Course
 pub mod Destroy
 pub mod Dispatch
@@ -8,6 +9,7 @@ pub mod Dues
 pub mod Gone
 pub mod Inspection
 pub mod Items
+pub mod JobLaws
 pub mod Jobs
 pub mod Moments
 pub mod Names

@@ -1,9 +1,10 @@
--- Meaning. The commands of an application, as its scripts see them.
+-- Steps. The commands of an application as its interpreter calls them: by acts, and by tasks that go on with jobs. What they come to, `Commands` says.
 use Rattle.std.specs.Prelude.{ℕ, List, [], ◌∷◌, Option, Some, None, option_map, Ok, Err}
 use Rattle.tcl_vars.specs.Store.{Store}
 use Rattle.tcl_control.specs.declared.code.Code.TheVariants.{Normal, Error}
 use Rattle.tcl_interp.specs.declared.tasks.Act.{Act}
 use Rattle.tcl_interp.specs.declared.tasks.Act.TheVariants.{Done}
+use Rattle.tcl_interp.specs.Acts.{script_meaning}
 use Rattle.tcl_interp.specs.Outside.{Outside, Told}
 use Rattle.tcl_interp.specs.declared.job.Task.{Task}
 use Rattle.tcl_interp.specs.Tasks.{outside_of}
@@ -12,6 +13,7 @@ use Rattle.tk_panel.specs.declared.job.Job.{Job}
 use Rattle.tk_panel.specs.Panel.{Panel}
 use Rattle.tk_commands.specs.Calls.{calls as panel_calls}
 pub use Rattle.tk_app.specs.Course.{course, of_panel}
+use Rattle.tk_app.specs.Dispatch.{Run}
 use Rattle.tk_app.specs.Seen.{Meaning, Seen, served_by, seen_with_panel}
 
 abbrev pub Does : Type 0
@@ -39,7 +41,10 @@ called_as None words seen store = by_panel seen (panel_calls seen.panel store wo
 abbrev pub calls : Seen → Store → List (List ℕ) → Does
 calls seen store words = called_as (alias_act seen.serves words) words seen store
 
--- All that scripts call, with the tasks by which jobs go on (`Course`: steps). The commands that begin a job answer its task, whose way leads through files of
--- steps; what each of them comes to, `Begun` says as an equation, so read on there.
+-- all that scripts call, with the tasks by which jobs go on
 abbrev pub outside : Outside Seen (Task Job)
 outside = outside_of course calls
+
+-- how its scripts are run then, with room for so many one in another
+abbrev pub run_in : ℕ → Run
+run_in room = script_meaning outside room

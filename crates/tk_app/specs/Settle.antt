@@ -4,23 +4,16 @@ use Rattle.tcl_control.specs.declared.code.Code.{Code}
 use Rattle.tcl_control.specs.declared.code.Code.TheVariants.{Normal}
 use Rattle.tcl_interp.specs.Evaluation.{State, Outcome, Ended, and_then}
 use Rattle.tcl_interp.specs.Scripts.{out_of_global}
-use Rattle.tk_after.specs.Timers.{idle_ids}
 use Rattle.tk_screen.specs.Layout.{changes_due}
-use Rattle.tk_sequences.specs.declared.event.Event.{Event}
 use Rattle.tk_tree.specs.Own.{IsSound}
-use Rattle.tk_panel.specs.declared.job.Home.TheVariants.{IdleTasks, Settle, Update}
+use Rattle.tk_panel.specs.declared.job.Home.TheVariants.{Settle}
 use Rattle.tk_panel.specs.declared.job.Job.{Job}
-use Rattle.tk_panel.specs.declared.job.Rest.{Rest}
-use Rattle.tk_panel.specs.Changes.{laid_out}
-use Rattle.tk_panel.specs.Choice.{chosen}
-use Rattle.tk_panel.specs.Panel.{Panel, is_closed}
-use Rattle.tk_panel.specs.Start.{without_event}
-use Rattle.tk_commands.specs.Course.{event_job}
+use Rattle.tk_panel.specs.Panel.{is_closed}
+use Rattle.tk_commands.specs.Course.{settling as settling_to}
 use Rattle.tk_commands.specs.Ends.{with_end}
-use Rattle.tk_commands.specs.Moment.{destroying, settling as settling_to}
-use Rattle.tk_app.specs.Destroy.{destroy_meaning}
-use Rattle.tk_app.specs.Dispatch.{Continuation, global_meaning, dispatch_meaning, in_panel, with_shown}
-use Rattle.tk_app.specs.Items.{item_meaning, round_meaning, settle_item}
+use Rattle.tk_app.specs.Commands.{scripts_in, update_meaning}
+use Rattle.tk_app.specs.Dispatch.{Continuation, global_meaning, with_panel_but_moment}
+use Rattle.tk_app.specs.Items.{item_meaning, settle_item}
 use Rattle.tk_app.specs.Jobs.{meaning}
 use Rattle.tk_app.specs.Seen.{Seen}
 use Rattle.tcl_text.specs.Limits.{most_running}
@@ -41,10 +34,10 @@ settle_meaning state = meaning most_running settling state
 module _ (settle : Continuation) where
   -- an error of the application's own script is told, and then comes what is to be done at the moment
   abbrev pub after_script : State Seen → Code → List ℕ → Outcome Seen
-  after_script state code text = settle (in_panel (with_end (out_of_global code) text state.shows.panel) state)
+  after_script state code text = settle (with_panel_but_moment (with_end (out_of_global code) text state.shows.panel) state)
 
   abbrev pub start_meaning : List ℕ → State Seen → Outcome Seen
-  start_meaning script state = and_then (global_meaning most_running script state) after_script
+  start_meaning script state = and_then (global_meaning (scripts_in most_running) script state) after_script
 
 -- ── the equations ──
 
@@ -55,7 +48,7 @@ IsSoundIn state = IsSound state.shows.panel.windowing.tree
 
 -- *Settle*'s equation: it is the first item that exists, and *Settle* again.
 abbrev pub IsSettle : Continuation → Type 0
-IsSettle settle = (state : State Seen) → IsSoundIn state → settle state ≡ settle_item most_running settle state
+IsSettle settle = (state : State Seen) → IsSoundIn state → settle state ≡ settle_item (scripts_in most_running) settle state
 
 -- The job meets it.
 abbrev pub Settles : Type 0
@@ -65,35 +58,15 @@ Settles = IsSettle settle_meaning
 abbrev pub OnlySettle : Type 0
 OnlySettle = (other : Continuation) → IsSettle other → (state : State Seen) → IsSoundIn state → other state ≡ settle_meaning state
 
--- So is the job that `update` begins, without the test for the main window. With `idletasks` it is a layout, a round of the idle scripts that wait
--- then, and a layout more.
+-- So is `update`, without the test for the main window.
 abbrev pub Updates : Type 0
 Updates = (room : ℕ) (state : State Seen) → IsSoundIn state
-    → meaning room (settling_to Update) state ≡ item_meaning room (meaning room (settling_to Update)) state
+    → update_meaning (scripts_in room) state ≡ item_meaning (scripts_in room) (update_meaning (scripts_in room)) state
 
 -- Nor does anything else meet this one.
 abbrev pub OnlyUpdate : Type 0
-OnlyUpdate = (room : ℕ) (other : Continuation) → ((state : State Seen) → IsSoundIn state → other state ≡ item_meaning room other state)
-    → (state : State Seen) → IsSoundIn state → other state ≡ meaning room (settling_to Update) state
-
--- a layout, and the empty answer
-abbrev pub laid : Continuation
-laid state = Ended (with_shown (laid_out state.store state.shows.panel) state) Normal []
-
-abbrev pub UpdatesIdleTasks : Type 0
-UpdatesIdleTasks = (room : ℕ) (state : State Seen)
-    → meaning room (settling_to IdleTasks) state
-    ≡ (let first : Panel = laid_out state.store state.shows.panel in round_meaning room (idle_ids first.timers.entries) laid (with_shown first state))
-
--- *Dispatch*: once the scripts of an event are chosen, the job of running them, with what is behind it.
-abbrev pub Dispatches : Type 0
-Dispatches = (room : ℕ) (event : Event) (rest : Rest) (state : State Seen)
-    → (let there : Panel × List (List ℕ) = chosen event state.shows.panel in meaning room (event_job there.1 rest) (with_shown there.0 state))
-    ≡ dispatch_meaning room event (meaning room (without_event rest)) state
-
--- The job that `destroy` begins with these paths is *Destroy* of them.
-abbrev pub Destroys : Type 0
-Destroys = (room : ℕ) (paths : List (List ℕ)) (state : State Seen) → meaning room (destroying paths) state ≡ destroy_meaning room paths state
+OnlyUpdate = (room : ℕ) (other : Continuation) → ((state : State Seen) → IsSoundIn state → other state ≡ item_meaning (scripts_in room) other state)
+    → (state : State Seen) → IsSoundIn state → other state ≡ update_meaning (scripts_in room) state
 
 -- Once all that is to be done has been done and there is a main window, the windows lie where a layout from nothing puts them.
 abbrev pub EndsLaidOut : Type 0

@@ -6,6 +6,7 @@ use Rattle.tk_panel.specs.declared.job.Job.{Job}
 use Rattle.tk_tree.specs.Own.{IsSound}
 use Rattle.tk_app.specs.declared.state.AppState.TheVariants.{Running}
 use Rattle.tk_app.specs.Application.{Application, fresh}
+use Rattle.tk_app.specs.Commands.{scripts_in}
 use Rattle.tk_app.specs.Dispatch.{Continuation, global_meaning}
 use Rattle.tk_app.specs.Jobs.{meaning}
 use Rattle.tk_app.specs.Moments.{delivered, settled, settled_by, started, started_by}
@@ -21,7 +22,7 @@ EndsSound (OutOfSteps state) = Unit {0}
 -- a script at global level leaves them so, and so does every job
 abbrev pub KeepsSound : Type 0
 KeepsSound = (room : ℕ) (state : State Seen) → IsSoundIn state
-    → ((script : List ℕ) → EndsSound (global_meaning room script state)) × ((job : Job) → EndsSound (meaning room job state))
+    → ((script : List ℕ) → EndsSound (global_meaning (scripts_in room) script state)) × ((job : Job) → EndsSound (meaning room job state))
 
 -- ── of an application by itself ──
 

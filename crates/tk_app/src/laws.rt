@@ -12,17 +12,15 @@ ghost use Rattle.tk_app.specs.Dues.{DueTakesAStep, SettledIsPast, StartedIsPast}
 ghost use Rattle.tk_app.specs.Gone.{DestroysAll};
 ghost use Rattle.tk_app.specs.Part.{BeginsWithScript, SettlesFromRest};
 ghost use Rattle.tk_app.specs.Jobs.{GoesByNext};
-ghost use Rattle.tk_app.specs.Settle.{
+ghost use Rattle.tk_app.specs.JobLaws.{
+  CommandsAreCalled,
   Destroys,
   Dispatches,
-  EndsLaidOut,
-  OnlySettle,
-  OnlyUpdate,
-  Settles,
-  SettlesTwice,
-  Updates,
+  ScriptsAreRun,
+  UpdateGoes,
   UpdatesIdleTasks,
 };
+ghost use Rattle.tk_app.specs.Settle.{EndsLaidOut, OnlySettle, OnlyUpdate, Settles, SettlesTwice, Updates};
 ghost use Rattle.tk_app.specs.Sound.{BySettle, KeepsSound, StaysSound};
 
 use tk_alias::AliasMeaning;
@@ -51,8 +49,9 @@ pub fn comes_by_settle<M: AliasMeaning>()
     ensures { BySettle M.answer }
 {}
 
-/// The job that `update` begins is the same, without the test for the main window (update(n)). Nothing else meets that equation.
+/// `update`, which the job that it begins comes to, is the same, without the test for the main window (update(n)). Nothing else meets that equation.
 pub fn updates()
+    ensures job { UpdateGoes }
     ensures equation { Updates }
     ensures only { OnlyUpdate }
 {}
@@ -84,6 +83,13 @@ pub fn keeps_sound()
 /// So they are in an application from its beginning on, as long as it runs.
 pub fn stays_sound<M: AliasMeaning>()
     ensures { StaysSound M.answer }
+{}
+
+/// What the commands of an application come to by the equations is what its interpreter makes of them, by jobs and their tasks; so scripts are, with
+/// any room for scripts in one another.
+pub fn scripts_by_equations()
+    ensures commands { CommandsAreCalled }
+    ensures scripts { ScriptsAreRun }
 {}
 
 /// Where no alias serves their names, commands do what these equations say, by whatever name they are called: `update` and `update idletasks`, `destroy`, an

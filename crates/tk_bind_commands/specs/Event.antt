@@ -8,7 +8,7 @@ use Rattle.tk_sequences.specs.Words.{name_in}
 use Rattle.tk_virtual.specs.declared.fault.VirtualFault.{VirtualFault}
 use Rattle.tk_virtual.specs.declared.fault.VirtualFault.TheVariants.{NoMemory}
 use Rattle.tk_virtual.specs.declared.pair.Pair.{Pair}
-use Rattle.tk_virtual.specs.Virtual.{Outcome, all_added, deleted, name_or_fault, written_names, written_of}
+use Rattle.tk_virtual.specs.Virtual.{OrFault, all_added, deleted, name_or_fault, written_names, written_of}
 
 abbrev pub Told : Type 0
 Told = List Pair × Answer
@@ -56,5 +56,5 @@ event_words (name ∷ words) own =
 
 -- what is told where a change gave this fault, unless memory was refused
 abbrev pub IsRefusal : VirtualFault → Answer → Type 0
-IsRefusal fault answer = (own : List Pair) (outcome : Outcome (List Pair))
+IsRefusal fault answer = (own : List Pair) (outcome : OrFault (List Pair))
     → (fault ≢ NoMemory → outcome ≡ Err fault) → (own, answer) ≡ become own (or_virtual_fault outcome)

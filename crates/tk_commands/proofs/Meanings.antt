@@ -13,8 +13,7 @@ use Rattle.tk_panel.specs.Settle.{Next}
 use Rattle.tk_panel.specs.Start.{without_event}
 use Rattle.tk_panel.specs.declared.job.Home.TheVariants.{Settle}
 use Rattle.tk_commands.specs.Calls.{calls}
-use Rattle.tk_commands.specs.Moment.{settling}
-use Rattle.tk_commands.specs.Course.{course, event_job, looked_of}
+use Rattle.tk_commands.specs.Course.{course, event_job, looked_of, settling}
 use Rattle.tk_commands.specs.Laws.{Begins, Destroys, Dispatches, Settles, comes_next, meaning, on_next, state_with_panel}
 
 by_next : (room : ℕ) (job : Option Job) (state : State Panel) → looked course (runs course calls room) (meaning room) (looked_of job) state ≡ on_next room state job

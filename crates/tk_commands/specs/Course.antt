@@ -8,14 +8,20 @@ use Rattle.tcl_interp.specs.declared.job.Looked.{Looked}
 use Rattle.tcl_interp.specs.declared.job.Looked.TheVariants.{Wants, Ends}
 use Rattle.tcl_interp.specs.declared.job.Started.{Started}
 use Rattle.tcl_interp.specs.Course.{Course}
+use Rattle.tk_panel.specs.declared.job.Home.{Home}
+use Rattle.tk_panel.specs.declared.job.Home.TheVariants.{IdleTasks, Update}
 use Rattle.tk_panel.specs.declared.job.Job.{Job}
 use Rattle.tk_panel.specs.declared.job.Rest.{Rest}
+use Rattle.tk_panel.specs.declared.job.Rest.TheVariants as behind
 use Rattle.tk_panel.specs.declared.transcript.Stream.TheVariants.{Err as Errors}
+use Rattle.tk_panel.specs.Choice.{chosen}
 use Rattle.tk_panel.specs.Next.{next}
 use Rattle.tk_panel.specs.Panel.{Panel}
 use Rattle.tk_panel.specs.Reports.{with_line}
 use Rattle.tk_panel.specs.Settle.{Next}
 use Rattle.tk_panel.specs.Start.{start, without_event}
+use Rattle.tk_commands.specs.declared.outcome.Begun.{Begun}
+use Rattle.tk_commands.specs.declared.outcome.Begun.TheVariants as begun
 pub use Rattle.tk_commands.specs.Ends.{with_end}
 
 -- ── what comes next, and what it starts ──
@@ -51,6 +57,25 @@ ended_by None rest code text panel = (with_end code text panel, without_event re
 
 abbrev pub ended : Code → List ℕ → Panel → Job → Panel × Job
 ended code text panel job = ended_by job.event job.rest code text panel
+
+-- ── what commands begin ──
+
+-- what is to be done at the moment, where nothing is under way
+abbrev pub settling : Home → Job
+settling home = without_event (behind.Rounds [] home)
+
+-- the windows of these paths are to be destroyed
+abbrev pub destroying : List (List ℕ) → Job
+destroying paths = without_event (behind.Destroys None [] paths)
+
+-- the job of what a command begins: the scripts of an event are chosen then
+abbrev pub job_of : Begun → Panel → Panel × Job
+job_of begun.Updates panel = (panel, settling Update)
+job_of begun.UpdatesIdleTasks panel = (panel, settling IdleTasks)
+job_of (begun.Destroys paths) panel = (panel, destroying paths)
+job_of (begun.Dispatches event) panel = (let there : Panel × List (List ℕ) = chosen event panel in (there.0, event_job there.1 behind.Ends))
+
+-- ── all ──
 
 abbrev pub course : Course Panel Job
 course = record {

@@ -7,22 +7,17 @@ use Rattle.tk_generate.specs.declared.generate.Generated.{Generated}
 use Rattle.tk_generate.specs.declared.given.When.{When}
 use Rattle.tk_generate.specs.declared.given.When.TheVariants.{Now, Tail, Head}
 use Rattle.tk_generate.specs.Generate.{generate_words}
-use Rattle.tk_panel.specs.declared.job.Rest.TheVariants.{Ends}
-use Rattle.tk_panel.specs.Choice.{chosen}
 use Rattle.tk_panel.specs.Panel.{Panel}
+use Rattle.tk_commands.specs.declared.outcome.Begun.TheVariants.{Dispatches}
 use Rattle.tk_commands.specs.declared.outcome.CommandOutcome.TheVariants.{Acts, Begins}
 use Rattle.tk_commands.specs.Outcomes.{Told, told}
 use Rattle.tk_widgets.specs.declared.outcome.WidgetAct.TheVariants.{Answer, Fault}
 use Rattle.tk_tree.specs.declared.window.Window.{Window}
 use Rattle.tk_tree.specs.Own.{window_at}
 
--- the command ends when these scripts of an event have run
-abbrev pub scripts_told : Panel × List (List ℕ) → Told
-scripts_told there = told there.0 (Begins (record { event = Some there.1; rest = Ends }))
-
 -- an event comes at once
 abbrev pub dispatched : Event → Panel → Told
-dispatched event panel = scripts_told (chosen event panel)
+dispatched event panel = told panel (Begins (Dispatches event))
 
 abbrev pub with_queue : List Event → Panel → Panel
 with_queue queue panel = record panel { queue = queue }

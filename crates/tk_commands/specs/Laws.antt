@@ -4,7 +4,8 @@ use Rattle.tcl_control.specs.declared.code.Code.{Code}
 use Rattle.tcl_control.specs.declared.code.Code.TheVariants.{Normal}
 use Rattle.tcl_interp.specs.Evaluation.{State, Outcome, Ended, and_then, with_step}
 use Rattle.tcl_interp.specs.Plans.{run_at}
-use Rattle.tcl_interp.specs.Scripts.{out_of_global, task_meaning}
+use Rattle.tcl_interp.specs.Acts.{task_meaning}
+use Rattle.tcl_interp.specs.Scripts.{out_of_global}
 use Rattle.tcl_interp.specs.declared.job.Task.TheVariants as task
 use Rattle.tcl_interp.specs.JobLaws.{runs}
 use Rattle.tcl_interp.specs.Meaning.{job_meaning}
@@ -19,8 +20,7 @@ use Rattle.tk_panel.specs.Panel.{Panel}
 use Rattle.tk_panel.specs.Settle.{Next, rounds_next}
 use Rattle.tk_panel.specs.Start.{start, without_event}
 use Rattle.tk_commands.specs.Calls.{calls}
-use Rattle.tk_commands.specs.Moment.{settling}
-use Rattle.tk_commands.specs.Course.{bound_ended, course, ended, event_job, with_end}
+use Rattle.tk_commands.specs.Course.{bound_ended, course, ended, event_job, settling, with_end}
 
 -- a script at global level, with room for so many scripts one in another
 abbrev pub at_global : ℕ → List ℕ → State Panel → Outcome Panel

@@ -1,37 +1,25 @@
 -- Meaning. The commands `puts`, `after`, `clock`, `update` and `destroy`, from the words behind their names.
-use Rattle.std.specs.Prelude.{ℕ, List, [], ◌∷◌, Option, None, codes, if◌then◌else◌}
+use Rattle.std.specs.Prelude.{ℕ, List, [], ◌∷◌, Option, codes, if◌then◌else◌}
 use Rattle.std.specs.Map.{lookup}
 use Rattle.std.specs.Str.{bytes_eq}
 use Rattle.tcl_text.specs.Answers.{bad_option, wrong_args}
-use Rattle.tk_panel.specs.declared.job.Home.{Home}
-use Rattle.tk_panel.specs.declared.job.Home.TheVariants.{Update, IdleTasks}
-use Rattle.tk_panel.specs.declared.job.Job.{Job}
-use Rattle.tk_panel.specs.declared.job.Rest.TheVariants.{Destroys, Rounds}
 use Rattle.tk_panel.specs.Commands.{after_told, clock_words, puts_words}
 use Rattle.tk_panel.specs.Panel.{Panel}
-use Rattle.tk_panel.specs.Start.{without_event}
 use Rattle.tk_commands.specs.declared.moment.MomentCommand.{MomentCommand}
 use Rattle.tk_commands.specs.declared.moment.MomentCommand.TheVariants as command
+use Rattle.tk_commands.specs.declared.outcome.Begun.TheVariants.{Updates, UpdatesIdleTasks, Destroys}
 use Rattle.tk_commands.specs.declared.outcome.CommandOutcome.{CommandOutcome}
 use Rattle.tk_commands.specs.declared.outcome.CommandOutcome.TheVariants.{Begins}
 use Rattle.tk_commands.specs.Outcomes.{Told, answered, outcome_of, told}
 
--- what is to be done at the moment, where nothing is under way
-abbrev pub settling : Home → Job
-settling home = without_event (Rounds [] home)
-
--- the windows of these paths are to be destroyed
-abbrev pub destroying : List (List ℕ) → Job
-destroying paths = without_event (Destroys None [] paths)
-
 -- update idletasks
 abbrev pub idle_words : List (List ℕ) → CommandOutcome
-idle_words [] = Begins (settling IdleTasks)
+idle_words [] = Begins UpdatesIdleTasks
 idle_words (word ∷ words) = outcome_of (wrong_args (codes "update ?idletasks?"))
 
 -- update ?idletasks?
 unfoldable pub update_words : List (List ℕ) → CommandOutcome
-update_words [] = Begins (settling Update)
+update_words [] = Begins Updates
 update_words (option ∷ words) = if bytes_eq option (codes "idletasks") then idle_words words else outcome_of (bad_option option)
 
 -- ---- by their names
@@ -53,4 +41,4 @@ moment_command_done command.Puts words panel = answered (puts_words words panel)
 moment_command_done command.After words panel = answered (after_told words panel)
 moment_command_done command.Clock words panel = answered (panel, clock_words words panel.moment)
 moment_command_done command.Update words panel = told panel (update_words words)
-moment_command_done command.Destroy words panel = told panel (Begins (destroying words))
+moment_command_done command.Destroy words panel = told panel (Begins (Destroys words))

@@ -12,7 +12,7 @@ use Rattle.tk_panel.specs.declared.job.Rest.TheVariants.{Ends, Destroys, Rounds}
 use Rattle.tk_panel.specs.Next.{next}
 use Rattle.tk_panel.specs.Panel.{Panel}
 use Rattle.tk_panel.specs.Settle.{is_closed, is_due}
-use Rattle.tk_commands.specs.Moment.{settling}
+use Rattle.tk_commands.specs.Course.{settling}
 use Rattle.tk_commands.specs.Laws.{meaning}
 
 abbrev pub is_empty : {X : Type 0} → List X → Bool

@@ -41,7 +41,7 @@ fn act_for(
 {
     match outcome {
         CommandOutcome::Acts(act) => Ok(act_of(act)),
-        CommandOutcome::Begins(job) => begin(tables, slot, scopes, job),
+        CommandOutcome::Begins(begun) => begin(tables, slot, scopes, begun),
         CommandOutcome::Unknown => Ok(Act::Unknown),
     }
 }

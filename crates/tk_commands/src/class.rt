@@ -98,12 +98,11 @@ fn shown_command(
 
 /// What comes of a command for a class: a selection that was made is told at once.
 fn outcome_for(
-    tables: &mut Tables,
+    tables: &Tables,
     slot: usize,
     outcome: ClassOutcome,
 ) -> Result<CommandOutcome, AllocError>
-    ensures own { IfOk result (λ outcome'. told (panel_of slot tables.new) outcome' ≡ spec.outcome_for outcome (panel_of slot tables.old)) }
-    ensures others { LeavesOthers slot tables.old tables.new }
+    ensures { IfOk result (λ outcome'. told (panel_of slot tables.now) outcome' ≡ spec.outcome_for outcome (panel_of slot tables.now)) }
 {
     match outcome {
         ClassOutcome::Acts(act) => Ok(CommandOutcome::Acts(act)),

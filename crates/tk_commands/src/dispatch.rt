@@ -5,32 +5,16 @@ ghost use Rattle.tk_commands.specs.Dispatch as spec;
 ghost use Rattle.tk_commands.specs.Outcomes.{told};
 ghost use Rattle.tk_tree.specs.Own as windows_of;
 
-use crate::outcome::CommandOutcome;
+use crate::outcome::{Begun, CommandOutcome};
 use std::alloc::{AllocError, Global};
 use tcl_text::Text;
 use tcl_text::message::short_text;
 use tk_base::Win;
 use tk_generate::{Generated, When, generate_command};
-use tk_panel::{Job, Rest, Tables, choose};
+use tk_panel::Tables;
 use tk_sequences::{Event, EventKind, VirtualName};
 use tk_tree::Windows;
 use tk_widgets::WidgetAct;
-
-/// An event comes at once: its scripts are chosen, and the command ends when they have run.
-pub fn dispatch(
-    tables: &mut Tables,
-    slot: usize,
-    event: Event,
-) -> Result<CommandOutcome, AllocError>
-    ensures own { IfOk result (λ outcome. told (panel_of slot tables.new) outcome ≡ spec.dispatched event (panel_of slot tables.old)) }
-    ensures others { LeavesOthers slot tables.old tables.new }
-{
-    let scripts = choose(tables, slot, event)?;
-    Ok(CommandOutcome::Begins(Job {
-        event: Some(scripts),
-        rest: Rest::Ends,
-    }))
-}
 
 /// `event generate` (event(n)), with the words behind `generate`.
 #[tactic(auto, unfolding(crate::specs::Dispatch::generate_told))]
@@ -70,7 +54,7 @@ fn arrive(
     let Generated { event, when } = generated;
     let nothing = WidgetAct::Answer(Text::empty());
     match when {
-        When::Now => dispatch(tables, slot, event),
+        When::Now => Ok(CommandOutcome::Begins(Begun::Dispatches(event))),
         When::Tail => {
             tables.queue.push_tail(slot, event)?;
             Ok(CommandOutcome::Acts(nothing))
@@ -84,12 +68,11 @@ fn arrive(
 
 /// `<<ListboxSelect>>` comes at once to the listbox with a number (listbox(n)).
 pub fn dispatch_selection(
-    tables: &mut Tables,
+    tables: &Tables,
     slot: usize,
     number: u64,
 ) -> Result<CommandOutcome, AllocError>
-    ensures own { IfOk result (λ outcome. told (panel_of slot tables.new) outcome ≡ spec.selection_told number (panel_of slot tables.old)) }
-    ensures others { LeavesOthers slot tables.old tables.new }
+    ensures { IfOk result (λ outcome. told (panel_of slot tables.now) outcome ≡ spec.selection_told number (panel_of slot tables.now)) }
 {
     let moment = tables.clock.moment();
     match selection_event(
@@ -99,7 +82,7 @@ pub fn dispatch_selection(
         number,
         moment,
     )? {
-        Some(event) => dispatch(tables, slot, event),
+        Some(event) => Ok(CommandOutcome::Begins(Begun::Dispatches(event))),
         None => Ok(CommandOutcome::Acts(WidgetAct::Answer(Text::empty()))),
     }
 }

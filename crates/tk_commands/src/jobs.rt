@@ -3,16 +3,28 @@ ghost use Rattle.std.specs.Prelude.{◌≡◌, IfOk, OnOk};
 ghost use Rattle.tcl_vars.specs.Store.{Store};
 ghost use Rattle.tk_panel.specs.Panel.{LeavesOthers, panel_of};
 ghost use Rattle.tk_panel.specs.Reports.{with_line};
-ghost use Rattle.tk_commands.specs.Calls.{begun};
-ghost use Rattle.tk_commands.specs.Course.{bound_ended, ended, event_job, job_started, look, looked_of, with_end};
+ghost use Rattle.tk_commands.specs.Calls.{goes_on};
+ghost use Rattle.tk_commands.specs.Course.{
+  bound_ended,
+  destroying,
+  ended,
+  event_job,
+  job_of,
+  job_started,
+  look,
+  looked_of,
+  settling,
+  with_end,
+};
 
+use crate::outcome::Begun;
 use std::alloc::{AllocError, Global};
 use tcl_control::{STRAY_BREAK, STRAY_CONTINUE};
 use tcl_interp::{Act, Code, Looked, Started, Task, act_for};
 use tcl_text::Text;
 use tcl_text::message::short_text;
 use tcl_vars::Scopes;
-use tk_panel::{Job, Rest, Scripts, Stream, Tables, next, write};
+use tk_panel::{Home, Job, Numbers, Rest, Scripts, Stream, Tables, choose, next, write};
 
 /// The job whose next script waits for its step; a job that has nothing more ends with the empty text.
 fn looked_of(job: Option<Job>) -> Looked<Job>
@@ -123,17 +135,61 @@ pub fn ended(
     }
 }
 
-/// A command begins a job, and goes on with it.
+/// What is to be done at a moment, where nothing is under way.
+pub fn settling(alloc: Global, home: Home) -> Job
+    ensures { result ≡ settling home }
+{
+    Job {
+        event: None,
+        rest: Rest::Rounds {
+            round: Numbers::none(alloc),
+            home,
+        },
+    }
+}
+
+/// The windows of these paths are to be destroyed.
+fn destroying(alloc: Global, paths: Scripts) -> Job
+    ensures { result ≡ destroying paths }
+{
+    Job {
+        event: None,
+        rest: Rest::Destroys {
+            window: None,
+            doomed: Numbers::none(alloc),
+            paths,
+        },
+    }
+}
+
+/// The job of what a command begins: the scripts of an event are chosen then.
+fn job_of(tables: &mut Tables, slot: usize, begun: Begun) -> Result<Job, AllocError>
+    ensures own { IfOk result (λ job. (panel_of slot tables.new, job) ≡ job_of begun (panel_of slot tables.old)) }
+    ensures others { LeavesOthers slot tables.old tables.new }
+{
+    match begun {
+        Begun::Updates => Ok(settling(tables.alloc, Home::Update)),
+        Begun::UpdatesIdleTasks => Ok(settling(tables.alloc, Home::IdleTasks)),
+        Begun::Destroys(paths) => Ok(destroying(tables.alloc, paths)),
+        Begun::Dispatches(event) => {
+            let scripts = choose(tables, slot, event)?;
+            Ok(event_job(scripts, Rest::Ends))
+        }
+    }
+}
+
+/// A command begins something, and goes on with its job.
 pub fn begin(
     tables: &mut Tables,
     slot: usize,
     scopes: &Scopes,
-    job: Job,
+    begun: Begun,
 ) -> Result<Act<Task<Job>>, AllocError>
     ensures own { IfOk result (λ act. record { shows = panel_of slot tables.new; store = scopes.now; act = act }
-        ≡ begun job (panel_of slot tables.old) scopes.now) }
+        ≡ goes_on begun (panel_of slot tables.old) scopes.now) }
     ensures others { LeavesOthers slot tables.old tables.new }
 {
+    let job = job_of(tables, slot, begun)?;
     let looked = look(tables, slot, scopes, job)?;
     Ok(act_for(looked))
 }

@@ -15,6 +15,5 @@ mod screen;
 
 pub use calls::{call, parsed};
 pub use commands::panel_command;
-pub use jobs::{begin, ended, look, start};
-pub use moment::settling;
-pub use outcome::CommandOutcome;
+pub use jobs::{begin, ended, look, settling, start};
+pub use outcome::{Begun, CommandOutcome};

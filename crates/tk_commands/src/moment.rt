@@ -4,13 +4,11 @@ ghost use Rattle.tk_panel.specs.Panel.{LeavesOthers, panel_of};
 ghost use Rattle.tk_commands.specs.Moment as spec;
 ghost use Rattle.tk_commands.specs.Outcomes.{told};
 
-use crate::outcome::{CommandOutcome, answering};
+use crate::outcome::{Begun, CommandOutcome, answering};
 use std::alloc::{AllocError, Global};
 use tcl_text::Text;
 use tcl_text::answers::{answered, bad_option, wrong_args};
-use tk_panel::{
-    Home, Job, Numbers, Rest, Scripts, Tables, after_command, clock_command, puts_command,
-};
+use tk_panel::{Scripts, Tables, after_command, clock_command, puts_command};
 
 /// A command on what an application writes and what it does at a moment.
 #[derive(Clone, Copy, Debug, PartialEq, Eq)]
@@ -63,7 +61,10 @@ pub fn moment_command_done(
             Ok(answering(answer))
         }
         MomentCommand::Update => update(tables.alloc, words),
-        MomentCommand::Destroy => Ok(CommandOutcome::Begins(destroying(tables.alloc, words)?)),
+        MomentCommand::Destroy => {
+            let paths = copied(tables.alloc, words)?;
+            Ok(CommandOutcome::Begins(Begun::Destroys(paths)))
+        }
     }
 }
 
@@ -73,7 +74,7 @@ fn update(alloc: Global, words: &[Text]) -> Result<CommandOutcome, AllocError>
     ensures { IfOk result (λ outcome. outcome ≡ spec.update_words words.now) }
 {
     let Some((option, words)) = words.split_first() else {
-        return Ok(CommandOutcome::Begins(settling(alloc, Home::Update)));
+        return Ok(CommandOutcome::Begins(Begun::Updates));
     };
     match option.as_str() {
         "idletasks" => update_idle(alloc, words),
@@ -86,38 +87,18 @@ fn update_idle(alloc: Global, words: &[Text]) -> Result<CommandOutcome, AllocErr
     ensures { IfOk result (λ outcome. outcome ≡ spec.idle_words words.now) }
 {
     if words.is_empty() {
-        return Ok(CommandOutcome::Begins(settling(alloc, Home::IdleTasks)));
+        return Ok(CommandOutcome::Begins(Begun::UpdatesIdleTasks));
     }
     Ok(answering(answered(wrong_args(alloc, "update ?idletasks?"))?))
 }
 
-/// What is to be done at a moment, where nothing is under way.
-pub fn settling(alloc: Global, home: Home) -> Job
-    ensures { result ≡ spec.settling home }
+/// Copies of words, which the command outlives.
+fn copied(alloc: Global, words: &[Text]) -> Result<Scripts, AllocError>
+    ensures { IfOk result (λ copies. copies ≡ words.now) }
 {
-    Job {
-        event: None,
-        rest: Rest::Rounds {
-            round: Numbers::none(alloc),
-            home,
-        },
+    let mut copies = Vec::with_capacity(alloc, words.len())?;
+    for word in words {
+        copies.push(word.copy()?)?;
     }
-}
-
-/// The windows of these paths are to be destroyed (destroy(n)).
-fn destroying(alloc: Global, paths: &[Text]) -> Result<Job, AllocError>
-    ensures { IfOk result (λ job. job ≡ spec.destroying paths.now) }
-{
-    let mut copies = Vec::with_capacity(alloc, paths.len())?;
-    for path in paths {
-        copies.push(path.copy()?)?;
-    }
-    Ok(Job {
-        event: None,
-        rest: Rest::Destroys {
-            window: None,
-            doomed: Numbers::none(alloc),
-            paths: Scripts::of(alloc, copies)?,
-        },
-    })
+    Scripts::of(alloc, copies)
 }

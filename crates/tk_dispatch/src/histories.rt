@@ -1,5 +1,6 @@
 ghost use Rattle.std.specs.Prelude.{◌≡◌, [], IfOk, OnOk, OnErr};
-ghost use Rattle.tk_dispatch.specs.Histories.{own_of, entered, LeavesOthers, LeavesAll};
+ghost use Rattle.tk_dispatch.specs.Histories.{own_of, LeavesOthers, LeavesAll};
+ghost use Rattle.tk_patterns.specs.History.{entered};
 
 use std::alloc::{AllocError, Global};
 use std::collections::HashMap;

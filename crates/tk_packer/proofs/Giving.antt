@@ -137,7 +137,7 @@ all_fit rect border requests places wide high is = λ k d lt.
 
 -- what stands past a list's end
 abbrev pub no_shape : Shape
-no_shape = record { number = 0; width = 0; height = 0; border = 0; propagates = false; place = record { x = 0; y = 0; width = 0; height = 0 }; mapped = false }
+no_shape = record { number = 0; width = 0; height = 0; border = 0; propagates = false; rectangle = record { x = 0; y = 0; width = 0; height = 0 }; mapped = false }
 
 pub places_begin : (slaves : ℕ → List Packed) (sizes : Sizes) (shapes : List Shape) (first given : Places) (places : List (Option Rect)) → places ≡ []
     → ((n : ℕ) → lookup (nat_eq n) given ≡ lookup (nat_eq n) first) → places ++ placed slaves sizes given shapes ≡ placed slaves sizes first shapes

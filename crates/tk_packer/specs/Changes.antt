@@ -10,7 +10,7 @@ is_same_rect a b = (a.x == b.x) && ((a.y == b.y) && ((a.width == b.width) && (a.
 
 -- a window that gets a rectangle: Configure where that is another than it had, and Map where it wasn't mapped
 abbrev pub configured : Shape → Rect → List PlaceChange
-configured shape rect = if is_same_rect shape.place rect then [] else Configure shape.number rect ∷ []
+configured shape rect = if is_same_rect shape.rectangle rect then [] else Configure shape.number rect ∷ []
 
 abbrev pub mapped : Shape → List PlaceChange
 mapped shape = if shape.mapped then [] else Map shape.number ∷ []
@@ -29,7 +29,7 @@ changes_of (shape ∷ shapes) (place ∷ places) = changes_at shape place ++ cha
 
 abbrev pub laid : Shape → Option Rect → Shape
 laid shape None = record shape { mapped = false }
-laid shape (Some rect) = record shape { place = rect; mapped = true }
+laid shape (Some rect) = record shape { rectangle = rect; mapped = true }
 
 unfoldable pub laid_out_shapes : List Shape → List (Option Rect) → List Shape
 laid_out_shapes [] places = []
@@ -38,4 +38,4 @@ laid_out_shapes (shape ∷ shapes) (place ∷ places) = laid shape place ∷ lai
 
 -- a window as it is before it is laid out
 abbrev pub unlaid : Shape → Shape
-unlaid shape = record shape { place = record { x = 0; y = 0; width = 1; height = 1 }; mapped = false }
+unlaid shape = record shape { rectangle = record { x = 0; y = 0; width = 1; height = 1 }; mapped = false }

@@ -47,7 +47,7 @@ fn tell(
             }
         }
         Some(rect) => {
-            if !is_same_rect(shape.place, rect) {
+            if !is_same_rect(shape.rectangle, rect) {
                 changes.push(PlaceChange::Configure(shape.number, rect))?;
             }
             if !shape.mapped {

@@ -13,7 +13,7 @@ pub struct Shape {
     /// Whether what is packed in it decides what it asks for: a frame or the main window for which `pack propagate` wasn't unset.
     pub propagates: bool,
     /// Where it was laid out last, in pixels, from its parent's upper left corner.
-    pub place: Rect,
+    pub rectangle: Rect,
     /// Whether it is mapped.
     pub mapped: bool,
 }

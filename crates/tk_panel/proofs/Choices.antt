@@ -2,7 +2,7 @@
 use Rattle.std.proofs.Common.{◌≡◌, ℕ, true, List, [], refl, sym, ap, ◌∙◌}
 use Rattle.std.specs.Prelude.{Option, Some, None, Ok, Err, is_some}
 use Rattle.tk_dispatch.specs.Dispatch.{Chosen}
-use Rattle.tk_dispatch.specs.Histories.{entered}
+use Rattle.tk_patterns.specs.History.{entered}
 use Rattle.tk_sequences.specs.declared.event.Event.{Event}
 use Rattle.tk_tree.specs.declared.window.Window.{Window}
 use Rattle.tk_tree.specs.Own.{window_at}

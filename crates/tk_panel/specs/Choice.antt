@@ -1,7 +1,7 @@
 -- Meaning. An event comes to its window (bind(n)): its scripts are chosen, and its fields put in, before the first of them runs.
 use Rattle.std.specs.Prelude.{ℕ, List, [], Option, Some, None, Ok, Err}
 use Rattle.tk_dispatch.specs.Dispatch.{Chosen, scripts_for}
-use Rattle.tk_dispatch.specs.Histories.{entered}
+use Rattle.tk_patterns.specs.History.{entered}
 use Rattle.tk_sequences.specs.declared.event.Event.{Event}
 use Rattle.tk_tree.specs.declared.window.Window.{Window}
 use Rattle.tk_tree.specs.Own.{window_at}

@@ -9,10 +9,10 @@ use Rattle.tk_patterns.specs.declared.filed.Filed.{Filed}
 use Rattle.tk_patterns.specs.Filed.{stamps_of}
 use Rattle.tk_sequences.specs.declared.event.Event.{Event}
 use Rattle.tk_sequences.specs.declared.event.EventKind.TheVariants as kinds
-use Rattle.tk_patterns.specs.declared.step.PatternStep.{PatternStep}
+use Rattle.tk_patterns.specs.declared.copies.PatternCopy.{PatternCopy}
 use Rattle.tk_patterns.specs.Fits.{fits, has_type, has_detail, has_modifiers}
 use Rattle.tk_patterns.specs.Matches.{earlier_at}
-use Rattle.tk_patterns.specs.Steps.{steps_of, newest_copy, earlier_copies, copies_of}
+use Rattle.tk_patterns.specs.Copies.{all_copies, newest_copy, earlier_copies, copies_of}
 use Rattle.tk_patterns.specs.Matches.{matches, ends_at, have_places}
 use Rattle.tk_patterns.specs.declared.binding.Binding.{Binding}
 use Rattle.tk_patterns.specs.Filing.{filing_number, number_of, is_number, is_number_of_key, is_number_of_button, is_number_of_names, own_class, is_of_event, name_number, pairs_of_key, pairs_of_button, pairs_of_any, is_named, is_sought}
@@ -45,13 +45,13 @@ class_is pattern patterns =
     ap (λ n. option_map_or (λ (p : Pattern). class_number p.kind p.detail) (slice_get (pattern ∷ patterns) n) 0) place
     ∙ ap (λ found. option_map_or (λ (p : Pattern). class_number p.kind p.detail) found 0) (last_at pattern patterns)
 
-record Newest (steps : List PatternStep) (pattern : Pattern) : Type 0 where
-  rest : List PatternStep
-  is : steps ≡ newest_copy pattern ∷ rest
+record Newest (copies : List PatternCopy) (pattern : Pattern) : Type 0 where
+  rest : List PatternCopy
+  is : copies ≡ newest_copy pattern ∷ rest
 
-newest : (pattern : Pattern) (patterns : List Pattern) → Newest (steps_of (pattern ∷ patterns)) (last_of pattern patterns)
+newest : (pattern : Pattern) (patterns : List Pattern) → Newest (all_copies (pattern ∷ patterns)) (last_of pattern patterns)
 newest pattern [] = record { rest = earlier_copies pattern.times pattern; is = refl }
-newest pattern (next ∷ patterns) = let later = newest next patterns in record { rest = later.rest ++ copies_of pattern; is = ap (λ steps. steps ++ copies_of pattern) later.is }
+newest pattern (next ∷ patterns) = let later = newest next patterns in record { rest = later.rest ++ copies_of pattern; is = ap (λ copies. copies ++ copies_of pattern) later.is }
 
 both_first : (a b : Bool) → (a && b) ≡ true → a ≡ true
 both_first true b h = refl
@@ -70,7 +70,7 @@ pub last_fits : (event : Event) (history : List Event) (pattern : Pattern) (patt
 last_fits event history pattern patterns h =
     let found = newest pattern patterns in
     both_first (fits (last_of pattern patterns) event) (have_places found.rest (earlier_at event.number history) event)
-    (ap (λ steps. ends_at steps (earlier_at event.number history) event) (sym found.is) ∙ h)
+    (ap (λ copies. ends_at copies (earlier_at event.number history) event) (sym found.is) ∙ h)
 
 -- ── nothing is sought ──
 pub none_stamps : (list : List Filed) → stamps_of (λ number. false) list ≡ []

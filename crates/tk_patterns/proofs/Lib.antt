@@ -1,5 +1,6 @@
 -- Lemmas of the proofs.
 pub mod BindLemmas
+pub mod CopyLemmas
 pub mod EventLemmas
 pub mod FiledLemmas
 pub mod FilingLemmas
@@ -11,6 +12,5 @@ pub mod PlaceLemmas
 pub mod Reached
 pub mod RestLemmas
 pub mod SeekLemmas
-pub mod StepLemmas
 pub mod VerdictLemmas
 pub mod WinnerLemmas

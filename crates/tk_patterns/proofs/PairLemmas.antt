@@ -25,7 +25,7 @@ use Rattle.tk_patterns.specs.Matches.{matches}
 use Rattle.tk_patterns.specs.Named.{of_matching, of_pairs}
 use Rattle.tk_patterns.specs.Same.{same_patterns}
 use Rattle.tk_patterns.specs.Specific.{Candidate, first_of, by_having, ends_with_detail, by_length, by_modifiers, by_origin, by_name, if_same, is_more, beats}
-use Rattle.tk_patterns.specs.Steps.{steps_of}
+use Rattle.tk_patterns.specs.Copies.{all_copies}
 use Rattle.tk_patterns.specs.Winner.{candidate, as_candidates, replaced, held_at_last}
 use Rattle.tk_patterns.proofs.FilingLemmas.{last_of, last_at, class_is, last_fits, three_first, three_false, unmatched}
 
@@ -43,7 +43,7 @@ having_less true y later h k = absurd (cc)
 abbrev later_rules : Candidate → Candidate → Verdict
 later_rules a b =
     first_of (by_length a.patterns b.patterns)
-    (first_of (by_modifiers (steps_of a.patterns) (steps_of b.patterns))
+    (first_of (by_modifiers (all_copies a.patterns) (all_copies b.patterns))
     (if_same (same_patterns a.patterns b.patterns) (first_of (by_origin a.name b.name) (by_name a.name b.name))))
 
 beats_general : (a b : Candidate) → ends_with_detail a.patterns ≡ true → ends_with_detail b.patterns ≡ false → beats a b ≡ true

@@ -1,7 +1,7 @@
 -- One place of the comparison of modifiers.
 use Rattle.std.proofs.Common.{◌≡◌, ℕ, zero, suc, ◌+◌, true, false, List, [], ◌∷◌, drop, Some, None, slice_get, refl, ap, ◌∙◌}
-use Rattle.tk_patterns.proofs.StepLemmas.{rest_at}
-use Rattle.tk_patterns.specs.declared.step.PatternStep.{PatternStep}
+use Rattle.tk_patterns.proofs.CopyLemmas.{rest_at}
+use Rattle.tk_patterns.specs.declared.copies.PatternCopy.{PatternCopy}
 use Rattle.tk_patterns.specs.declared.verdict.Verdict.{Verdict}
 use Rattle.tk_patterns.specs.declared.verdict.Verdict.TheVariants.{More, Less, Alike}
 use Rattle.tk_patterns.specs.Specific.{first_of, is_alike, by_held, by_modifiers}
@@ -16,25 +16,25 @@ alike_by More later h = absurd (cc)
 alike_by Less later h = absurd (cc)
 alike_by Alike later h = refl
 
-at_place : (steps others : List PatternStep) (place : ℕ) (step other : PatternStep) → slice_get steps place ≡ Some step → slice_get others place ≡ Some other
-    → by_modifiers (drop place steps) (drop place others) ≡ first_of (by_held step.pattern.modifiers other.pattern.modifiers) (by_modifiers (drop (place + 1) steps) (drop (place + 1) others))
-at_place steps others place step other h k =
-    ap (λ rest. by_modifiers rest (drop place others)) (rest_at steps place step h) ∙ ap (λ rest. by_modifiers (step ∷ drop (place + 1) steps) rest) (rest_at others place other k)
+at_place : (copies others : List PatternCopy) (place : ℕ) (copy other : PatternCopy) → slice_get copies place ≡ Some copy → slice_get others place ≡ Some other
+    → by_modifiers (drop place copies) (drop place others) ≡ first_of (by_held copy.pattern.modifiers other.pattern.modifiers) (by_modifiers (drop (place + 1) copies) (drop (place + 1) others))
+at_place copies others place copy other h k =
+    ap (λ rest. by_modifiers rest (drop place others)) (rest_at copies place copy h) ∙ ap (λ rest. by_modifiers (copy ∷ drop (place + 1) copies) rest) (rest_at others place other k)
 
-pub decided_at : (steps others : List PatternStep) (place : ℕ) (step other : PatternStep) → slice_get steps place ≡ Some step → slice_get others place ≡ Some other → is_alike (by_held step.pattern.modifiers other.pattern.modifiers) ≡ false
-    → by_modifiers (drop place steps) (drop place others) ≡ by_held step.pattern.modifiers other.pattern.modifiers
-decided_at steps others place step other h k decided = at_place steps others place step other h k ∙ decided_by (by_held step.pattern.modifiers other.pattern.modifiers) (by_modifiers (drop (place + 1) steps) (drop (place + 1) others)) decided
+pub decided_at : (copies others : List PatternCopy) (place : ℕ) (copy other : PatternCopy) → slice_get copies place ≡ Some copy → slice_get others place ≡ Some other → is_alike (by_held copy.pattern.modifiers other.pattern.modifiers) ≡ false
+    → by_modifiers (drop place copies) (drop place others) ≡ by_held copy.pattern.modifiers other.pattern.modifiers
+decided_at copies others place copy other h k decided = at_place copies others place copy other h k ∙ decided_by (by_held copy.pattern.modifiers other.pattern.modifiers) (by_modifiers (drop (place + 1) copies) (drop (place + 1) others)) decided
 
-pub alike_at : (steps others : List PatternStep) (place : ℕ) (step other : PatternStep) → slice_get steps place ≡ Some step → slice_get others place ≡ Some other → is_alike (by_held step.pattern.modifiers other.pattern.modifiers) ≡ true
-    → by_modifiers (drop place steps) (drop place others) ≡ by_modifiers (drop (place + 1) steps) (drop (place + 1) others)
-alike_at steps others place step other h k alike = at_place steps others place step other h k ∙ alike_by (by_held step.pattern.modifiers other.pattern.modifiers) (by_modifiers (drop (place + 1) steps) (drop (place + 1) others)) alike
+pub alike_at : (copies others : List PatternCopy) (place : ℕ) (copy other : PatternCopy) → slice_get copies place ≡ Some copy → slice_get others place ≡ Some other → is_alike (by_held copy.pattern.modifiers other.pattern.modifiers) ≡ true
+    → by_modifiers (drop place copies) (drop place others) ≡ by_modifiers (drop (place + 1) copies) (drop (place + 1) others)
+alike_at copies others place copy other h k alike = at_place copies others place copy other h k ∙ alike_by (by_held copy.pattern.modifiers other.pattern.modifiers) (by_modifiers (drop (place + 1) copies) (drop (place + 1) others)) alike
 
-nothing_at : (steps : List PatternStep) (place : ℕ) → slice_get steps place ≡ None → drop place steps ≡ []
+nothing_at : (copies : List PatternCopy) (place : ℕ) → slice_get copies place ≡ None → drop place copies ≡ []
 nothing_at [] zero h = refl
 nothing_at [] (suc place) h = refl
-nothing_at (step ∷ steps) zero h = absurd (cc)
-nothing_at (step ∷ steps) (suc place) h = nothing_at steps place h
+nothing_at (copy ∷ copies) zero h = absurd (cc)
+nothing_at (copy ∷ copies) (suc place) h = nothing_at copies place h
 
-pub ended_at : (steps others : List PatternStep) (place : ℕ) (step : PatternStep) → slice_get steps place ≡ Some step → slice_get others place ≡ None → by_modifiers (drop place steps) (drop place others) ≡ Alike
-ended_at steps others place step h none =
-    ap (λ rest. by_modifiers rest (drop place others)) (rest_at steps place step h) ∙ ap (λ rest. by_modifiers (step ∷ drop (place + 1) steps) rest) (nothing_at others place none)
+pub ended_at : (copies others : List PatternCopy) (place : ℕ) (copy : PatternCopy) → slice_get copies place ≡ Some copy → slice_get others place ≡ None → by_modifiers (drop place copies) (drop place others) ≡ Alike
+ended_at copies others place copy h none =
+    ap (λ rest. by_modifiers rest (drop place others)) (rest_at copies place copy h) ∙ ap (λ rest. by_modifiers (copy ∷ drop (place + 1) copies) rest) (nothing_at others place none)

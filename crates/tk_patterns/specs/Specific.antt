@@ -3,8 +3,8 @@ use Rattle.std.specs.Prelude.{ℕ, Bool, true, false, ◌-◌, nat_lt, List, [],
 use Rattle.std.specs.Option.{option_map_or}
 use Rattle.std.specs.Ordering.{is_lt, nat_cmp}
 use Rattle.std.specs.Cmp.Lexicographic.{slice_cmp}
-use Rattle.tk_patterns.specs.declared.step.PatternStep.{PatternStep}
-use Rattle.tk_patterns.specs.Steps.{steps_of}
+use Rattle.tk_patterns.specs.declared.copies.PatternCopy.{PatternCopy}
+use Rattle.tk_patterns.specs.Copies.{all_copies}
 use Rattle.tk_patterns.specs.declared.verdict.Verdict.{Verdict}
 use Rattle.tk_patterns.specs.declared.verdict.Verdict.TheVariants.{More, Less, Alike}
 use Rattle.tk_patterns.specs.Same.{same_patterns}
@@ -41,18 +41,18 @@ by_detail patterns others = by_having (ends_with_detail patterns) (ends_with_det
 -- (b) longer, each copy of a Double, Triple or Quadruple counted
 abbrev pub by_length : List Pattern → List Pattern → Verdict
 by_length patterns others =
-    if nat_lt (length (steps_of others)) (length (steps_of patterns)) then More else
-    if nat_lt (length (steps_of patterns)) (length (steps_of others)) then Less else Alike
+    if nat_lt (length (all_copies others)) (length (all_copies patterns)) then More else
+    if nat_lt (length (all_copies patterns)) (length (all_copies others)) then Less else Alike
 
 -- one set of modifiers beside another: the proper superset is more specific
 abbrev pub by_held : ℕ → ℕ → Verdict
 by_held modifiers others = if contains_more modifiers others then More else if contains_more others modifiers then Less else Alike
 
 -- (c) from the newest event to the oldest, a proper superset of modifiers
-abbrev pub by_modifiers : List PatternStep → List PatternStep → Verdict
+abbrev pub by_modifiers : List PatternCopy → List PatternCopy → Verdict
 by_modifiers [] others = Alike
-by_modifiers (step ∷ steps) [] = Alike
-by_modifiers (step ∷ steps) (other ∷ others) = first_of (by_held step.pattern.modifiers other.pattern.modifiers) (by_modifiers steps others)
+by_modifiers (copy ∷ copies) [] = Alike
+by_modifiers (copy ∷ copies) (other ∷ others) = first_of (by_held copy.pattern.modifiers other.pattern.modifiers) (by_modifiers copies others)
 
 -- (d) a physical sequence before the same through a virtual event
 abbrev pub by_origin : Option (List ℕ) → Option (List ℕ) → Verdict
@@ -77,7 +77,7 @@ abbrev pub verdict : List Pattern → List Pattern → Option (List ℕ) → Opt
 verdict patterns others name other =
     first_of (by_detail patterns others)
     (first_of (by_length patterns others)
-    (first_of (by_modifiers (steps_of patterns) (steps_of others))
+    (first_of (by_modifiers (all_copies patterns) (all_copies others))
     (if_same (same_patterns patterns others) (first_of (by_origin name other) (by_name name other)))))
 
 abbrev pub is_more : Verdict → Bool

@@ -1,14 +1,14 @@
 //! Which of two matching sequences is more specific.
 ghost use Rattle.std.specs.Prelude.{◌≡◌, ◌≤◌};
 ghost use Rattle.std.specs.Option.{option_copied};
-ghost use Rattle.tk_patterns.specs.Steps.{steps_of};
+ghost use Rattle.tk_patterns.specs.Copies.{all_copies};
 ghost use Rattle.tk_patterns.specs.Shown.{shown};
 ghost use Rattle.tk_patterns.specs.Specific.{ends_with_detail, by_detail, by_length, by_held, by_modifiers, by_origin, by_name, verdict, beats};
 ghost use Rattle.tk_sequences.specs.Patterns.{count_of};
 
 use crate::same::same_patterns;
 use crate::verdict::{Verdict, by_having, if_same};
-use crate::{count_of, step_at};
+use crate::{copy_at, count_of};
 use tcl_text::Text;
 use tk_sequences::{Modifiers, Pattern, Patterns, VirtualName};
 
@@ -88,16 +88,16 @@ fn by_length(patterns: &[Pattern], others: &[Pattern]) -> Verdict
 /// From the newest event to the oldest, the one that asks for all the other's modifiers and more.
 fn by_modifiers(patterns: &[Pattern], others: &[Pattern]) -> Verdict
     requires { count_of patterns.now ≤ 32 }
-    ensures { result ≡ by_modifiers (steps_of patterns.now) (steps_of others.now) }
+    ensures { result ≡ by_modifiers (all_copies patterns.now) (all_copies others.now) }
 {
     for place in 0..count_of(patterns) {
-        let Some(step) = step_at(patterns, place) else {
+        let Some(copy) = copy_at(patterns, place) else {
             return Verdict::Alike;
         };
-        let Some(other) = step_at(others, place) else {
+        let Some(other) = copy_at(others, place) else {
             return Verdict::Alike;
         };
-        let verdict = by_held(step.pattern.modifiers, other.pattern.modifiers);
+        let verdict = by_held(copy.pattern.modifiers, other.pattern.modifiers);
         if !verdict.is_alike() {
             return verdict;
         }

@@ -1,13 +1,12 @@
-ghost use Rattle.std.specs.Prelude.{◌≡◌, ◌≤◌, ◌<◌, ◌↔◌, [], ◌∷◌, ◌++◌, length, take, drop, option_map, IfSome, IfOk, IsTrue, if◌then◌else◌};
-ghost use Rattle.circular_buffer.specs.Buffer.{keep_last};
-ghost use Rattle.tk_sequences.specs.Event.{is_input};
+ghost use Rattle.std.specs.Prelude.{◌≡◌, ◌≤◌, ◌<◌, ◌↔◌, [], length, take, drop, option_map, IfSome, IfOk, IsTrue};
+ghost use Rattle.tk_patterns.specs.History.{entered};
 ghost use Rattle.tk_patterns.specs.Matches.{Matches, earlier_at, is_near_enough, matches};
-ghost use Rattle.tk_patterns.specs.Steps.{steps_of};
+ghost use Rattle.tk_patterns.specs.Copies.{all_copies};
 ghost use Rattle.tk_patterns.specs.Walk.{walk_matches, walk_ends_at, walk, nearest};
 ghost use Rattle.tk_sequences.specs.Patterns.{ArePatterns};
 
+use crate::copies::{PatternCopy, copy_at, count_of};
 use crate::fitting::{are_near, fits, may_stand_between};
-use crate::step::{PatternStep, count_of, step_at};
 use circular_buffer::HeapCircularBuffer;
 use std::alloc::{AllocError, Global};
 use std::marker::Model;
@@ -44,7 +43,7 @@ impl History {
 
     /// Keeps an event of a key or a button, and forgets the oldest where there are 32. Other events are not kept. It takes no memory.
     pub fn push(&mut self, event: Event)
-        ensures { self.new ≡ (if is_input event.kind then keep_last 32 (self.old ++ event ∷ []) else self.old) }
+        ensures { self.new ≡ entered event self.old }
     {
         if event.kind.is_input() {
             self.events.push_back(event);
@@ -76,10 +75,10 @@ impl History {
 /// Whether the newest event that the patterns ask for is this one, and the others come before it.
 fn ends_at(events: &HeapCircularBuffer<Event>, patterns: &[Pattern], event: &Event) -> bool
     requires { ArePatterns patterns.now }
-    ensures { result ≡ walk_ends_at (steps_of patterns.now) (earlier_at event.now.number events.now.items) event.now }
+    ensures { result ≡ walk_ends_at (all_copies patterns.now) (earlier_at event.now.number events.now.items) event.now }
 {
-    match step_at(patterns, 0) {
-        Some(step) => fits(&step.pattern, event) && have_places(events, patterns, event),
+    match copy_at(patterns, 0) {
+        Some(copy) => fits(&copy.pattern, event) && have_places(events, patterns, event),
         None => false,
     }
 }
@@ -87,18 +86,18 @@ fn ends_at(events: &HeapCircularBuffer<Event>, patterns: &[Pattern], event: &Eve
 /// Whether the events that the patterns ask for before this one are there.
 fn have_places(events: &HeapCircularBuffer<Event>, patterns: &[Pattern], event: &Event) -> bool
     requires { ArePatterns patterns.now }
-    ensures { result ≡ walk (drop 1 (steps_of patterns.now)) (earlier_at event.now.number events.now.items) event.now }
+    ensures { result ≡ walk (drop 1 (all_copies patterns.now)) (earlier_at event.now.number events.now.items) event.now }
 {
     let mut end = events.len();
     let mut later = event;
     for place in 1..count_of(patterns) {
-        let Some(step) = step_at(patterns, place) else {
+        let Some(copy) = copy_at(patterns, place) else {
             return true;
         };
-        let Some((found, here)) = nearest(events, &step.pattern, event.number, end) else {
+        let Some((found, here)) = nearest(events, &copy.pattern, event.number, end) else {
             return false;
         };
-        if !is_near_enough(step, here, later) {
+        if !is_near_enough(copy, here, later) {
             return false;
         }
         end = found;
@@ -108,10 +107,10 @@ fn have_places(events: &HeapCircularBuffer<Event>, patterns: &[Pattern], event: 
 }
 
 /// Whether an event is near enough to the later one, if both are for one Double, Triple or Quadruple.
-fn is_near_enough(step: PatternStep, here: &Event, later: &Event) -> bool
-    ensures { result ≡ is_near_enough step here.now later.now }
+fn is_near_enough(copy: PatternCopy, here: &Event, later: &Event) -> bool
+    ensures { result ≡ is_near_enough copy here.now later.now }
 {
-    !step.again || are_near(step.pattern.kind, here, later)
+    !copy.again || are_near(copy.pattern.kind, here, later)
 }
 
 /// The nearest event of a window that a pattern fits, among those before a place, and where it is; none where an event stands before it that

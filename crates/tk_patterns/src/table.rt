@@ -119,14 +119,14 @@ impl BindTable {
         ensures { IfOk result (λ script. script
             ≡ winner (meanings_of virtuals.now) tag.now event.now history.now (own_of owner self.now)) }
     {
-        match self.chosen(owner, tag, event, history, virtuals)? {
+        match self.winning_script(owner, tag, event, history, virtuals)? {
             Some(script) => Ok(Some(script.copy()?)),
             None => Ok(None),
         }
     }
 
     /// The same, without a copy.
-    fn chosen<'a>(
+    fn winning_script<'a>(
         &'a self,
         owner: usize,
         tag: &str,

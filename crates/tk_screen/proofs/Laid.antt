@@ -45,9 +45,9 @@ changed_other m n place mapped (w ∷ ws) differ = by (w.number == n) (w.number 
 
 -- ── one change of a layout ──
 
-mapped_same : (n : ℕ) (b : Bool) (own : Tree) (w : Window) → window_at n own ≡ Some w → window_at n (with_mapped n b own) ≡ Some (with_place w.place b w)
+mapped_same : (n : ℕ) (b : Bool) (own : Tree) (w : Window) → window_at n own ≡ Some w → window_at n (with_mapped n b own) ≡ Some (with_place w.rectangle b w)
 mapped_same n b own w there =
-    ap (λ found. window_at n (mapped_as n b found own)) there ∙ changed_same n w.place b own.windows ∙ ap (option_map (with_place w.place b)) there
+    ap (λ found. window_at n (mapped_as n b found own)) there ∙ changed_same n w.rectangle b own.windows ∙ ap (option_map (with_place w.rectangle b)) there
 
 placed_same : (n : ℕ) (place : Rect) (own : Tree) (w : Window) → window_at n own ≡ Some w → window_at n (with_rect n place own) ≡ Some (with_place place w.mapped w)
 placed_same n place own w there =
@@ -55,7 +55,7 @@ placed_same n place own w there =
 
 mapped_other : (m n : ℕ) (b : Bool) (found : Option Window) (own : Tree) → m ≢ n → window_at m (mapped_as n b found own) ≡ window_at m own
 mapped_other m n b None own differ = refl
-mapped_other m n b (Some w) own differ = changed_other m n w.place b own.windows differ
+mapped_other m n b (Some w) own differ = changed_other m n w.rectangle b own.windows differ
 
 placed_other : (m n : ℕ) (place : Rect) (found : Option Window) (own : Tree) → m ≢ n → window_at m (placed_at n place found own) ≡ window_at m own
 placed_other m n place None own differ = refl
@@ -84,18 +84,18 @@ unfolding with_changes
 one_read own shape None read = by shape.mapped refl
   where
     by : (b : Bool) → shape.mapped ≡ b → IsRead (with_changes (if b then Unmap shape.number ∷ [] else []) own) (laid shape None)
-    by true is = record { window = with_place read.window.place false read.window; there = mapped_same shape.number false own read.window read.there; place = read.place; mapped = refl }
-    by false is = record { window = read.window; there = read.there; place = read.place; mapped = read.mapped ∙ is }
-one_read own shape (Some rect) read = by (is_same_rect shape.place rect) shape.mapped refl refl
+    by true is = record { window = with_place read.window.rectangle false read.window; there = mapped_same shape.number false own read.window read.there; rectangle = read.rectangle; mapped = refl }
+    by false is = record { window = read.window; there = read.there; rectangle = read.rectangle; mapped = read.mapped ∙ is }
+one_read own shape (Some rect) read = by (is_same_rect shape.rectangle rect) shape.mapped refl refl
   where
-    by : (same b : Bool) → is_same_rect shape.place rect ≡ same → shape.mapped ≡ b
+    by : (same b : Bool) → is_same_rect shape.rectangle rect ≡ same → shape.mapped ≡ b
         → IsRead (with_changes ((if same then [] else Configure shape.number rect ∷ []) ++ (if b then [] else Map shape.number ∷ [])) own) (laid shape (Some rect))
-    by true true same is = record { window = read.window; there = read.there; place = read.place ∙ same_rect shape.place rect same; mapped = read.mapped ∙ is }
-    by true false same is = record { window = with_place read.window.place true read.window; there = mapped_same shape.number true own read.window read.there; place = read.place ∙ same_rect shape.place rect same; mapped = refl }
-    by false true same is = record { window = with_place rect read.window.mapped read.window; there = placed_same shape.number rect own read.window read.there; place = refl; mapped = read.mapped ∙ is }
+    by true true same is = record { window = read.window; there = read.there; rectangle = read.rectangle ∙ same_rect shape.rectangle rect same; mapped = read.mapped ∙ is }
+    by true false same is = record { window = with_place read.window.rectangle true read.window; there = mapped_same shape.number true own read.window read.there; rectangle = read.rectangle ∙ same_rect shape.rectangle rect same; mapped = refl }
+    by false true same is = record { window = with_place rect read.window.mapped read.window; there = placed_same shape.number rect own read.window read.there; rectangle = refl; mapped = read.mapped ∙ is }
     by false false same is =
         let placed : Window = with_place rect read.window.mapped read.window in
-        record { window = with_place placed.place true placed; there = mapped_same shape.number true (with_rect shape.number rect own) placed (placed_same shape.number rect own read.window read.there); place = refl; mapped = refl }
+        record { window = with_place placed.rectangle true placed; there = mapped_same shape.number true (with_rect shape.number rect own) placed (placed_same shape.number rect own read.window read.there); rectangle = refl; mapped = refl }
 
 one_other : (m : ℕ) (own : Tree) (shape : Shape) (place : Option Rect) → m ≢ shape.number → window_at m (with_changes (changes_at shape place) own) ≡ window_at m own
 unfolding with_changes
@@ -104,7 +104,7 @@ one_other m own shape None differ = by shape.mapped
     by : (b : Bool) → window_at m (with_changes (if b then Unmap shape.number ∷ [] else []) own) ≡ window_at m own
     by true = mapped_other m shape.number false (window_at shape.number own) own differ
     by false = refl
-one_other m own shape (Some rect) differ = by (is_same_rect shape.place rect) shape.mapped
+one_other m own shape (Some rect) differ = by (is_same_rect shape.rectangle rect) shape.mapped
   where
     by : (same b : Bool) → window_at m (with_changes ((if same then [] else Configure shape.number rect ∷ []) ++ (if b then [] else Map shape.number ∷ [])) own) ≡ window_at m own
     by true true = refl
@@ -132,7 +132,7 @@ others_stay m (shape ∷ shapes) (place ∷ places) own none =
 
 -- what is read stays read where the window stays
 still_read : (own new : Tree) (shape : Shape) → window_at shape.number new ≡ window_at shape.number own → IsRead own shape → IsRead new shape
-still_read own new shape same read = record { window = read.window; there = same ∙ read.there; place = read.place; mapped = read.mapped }
+still_read own new shape same read = record { window = read.window; there = same ∙ read.there; rectangle = read.rectangle; mapped = read.mapped }
 
 number_laid : (shape : Shape) (place : Option Rect) → (laid shape place).number ≡ shape.number
 number_laid shape None = refl

@@ -34,7 +34,7 @@ some_of o p same some = same ∙ some
 
 mapped_there : (m n : ℕ) (mapped : Bool) (found : Option Window) (own : Tree) → IsSome (window_at m own) → IsSome (window_at m (mapped_as n mapped found own))
 mapped_there m n mapped None own there = there
-mapped_there m n mapped (Some window) own there = some_of _ _ (still_some m n window.place mapped own.windows) there
+mapped_there m n mapped (Some window) own there = some_of _ _ (still_some m n window.rectangle mapped own.windows) there
 
 placed_there : (m n : ℕ) (place : Rect) (found : Option Window) (own : Tree) → IsSome (window_at m own) → IsSome (window_at m (placed_at n place found own))
 placed_there m n place None own there = there
@@ -75,12 +75,12 @@ unfolding with_changes
 all_changed rest own all so_far none = sym (ap (λ cs. with_changes cs own) none) ∙ so_far
 
 -- ── a window that is there ──
-pub mapped_by : (number : ℕ) (mapped : Bool) (told : Rect × Bool) (found : Option Window) (own new : Tree) → IsSome found → IfSome found (λ window. told ≡ (window.place, window.mapped))
+pub mapped_by : (number : ℕ) (mapped : Bool) (told : Rect × Bool) (found : Option Window) (own new : Tree) → IsSome found → IfSome found (λ window. told ≡ (window.rectangle, window.mapped))
     → new ≡ with_change number (with_place told.0 mapped) own → new ≡ mapped_as number mapped found own
 mapped_by number mapped told None own new some is new_is = absurd (cc)
 mapped_by number mapped told (Some window) own new some is new_is = new_is ∙ ap (λ t. with_change number (with_place t.0 mapped) own) is
 
-pub placed_by : (number : ℕ) (place : Rect) (told : Rect × Bool) (found : Option Window) (own new : Tree) → IsSome found → IfSome found (λ window. told ≡ (window.place, window.mapped))
+pub placed_by : (number : ℕ) (place : Rect) (told : Rect × Bool) (found : Option Window) (own new : Tree) → IsSome found → IfSome found (λ window. told ≡ (window.rectangle, window.mapped))
     → new ≡ with_change number (with_place place told.1) own → new ≡ placed_at number place found own
 placed_by number place told None own new some is new_is = absurd (cc)
 placed_by number place told (Some window) own new some is new_is = new_is ∙ ap (λ t. with_change number (with_place place t.1) own) is

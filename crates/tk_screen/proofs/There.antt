@@ -48,7 +48,7 @@ module _ (tree : Tree) where
   one_there : (shape : Shape) (place : Option Rect) → IsSome (window_at shape.number tree) → AreThere (changes_at shape place) tree
   one_there shape None there = unmap_there shape.mapped shape.number there
   one_there shape (Some rect) there =
-      both_there _ _ (configure_there (is_same_rect shape.place rect) shape.number rect there) (map_there shape.mapped shape.number there)
+      both_there _ _ (configure_there (is_same_rect shape.rectangle rect) shape.number rect there) (map_there shape.mapped shape.number there)
 
   changes_there : (all : List Shape) (places : List (Option Rect)) → AllThere all → AreThere (changes_of all places) tree
   unfolding AreThere changes_of

@@ -35,7 +35,7 @@ use Rattle.tk_screen.proofs.Laid.{all_laid}
 
 -- a window without where it lies, and whether it is mapped
 abbrev pub plain : Window → Window
-plain window = record window { place = record { x = 0; y = 0; width = 1; height = 1 }; mapped = false }
+plain window = record window { rectangle = record { x = 0; y = 0; width = 1; height = 1 }; mapped = false }
 
 plain_changed : (number : ℕ) (place : Rect) (mapped : Bool) (windows : List Window) → map plain (changed_at number_of number (with_place place mapped) windows) ≡ map plain windows
 plain_changed number place mapped [] = refl
@@ -48,7 +48,7 @@ plain_changed number place mapped (window ∷ windows) = by (window.number == nu
 
 plain_mapped : (number : ℕ) (mapped : Bool) (found : Option Window) (tree : Tree) → map plain (mapped_as number mapped found tree).windows ≡ map plain tree.windows
 plain_mapped number mapped None tree = refl
-plain_mapped number mapped (Some window) tree = plain_changed number window.place mapped tree.windows
+plain_mapped number mapped (Some window) tree = plain_changed number window.rectangle mapped tree.windows
 
 plain_placed : (number : ℕ) (place : Rect) (found : Option Window) (tree : Tree) → map plain (placed_at number place found tree).windows ≡ map plain tree.windows
 plain_placed number place None tree = refl
@@ -158,14 +158,14 @@ same_read tree (x ∷ ones) (y ∷ others) same one other = first ∙ ap (λ ys.
     window : one.0.window ≡ other.0.window
     window = some_same one.0.window other.0.window (sym one.0.there ∙ ap (λ (s : Shape). window_at s.number tree) alike ∙ other.0.there)
 
-    place : x.place ≡ y.place
-    place = sym one.0.place ∙ ap (λ (w : Window). w.place) window ∙ other.0.place
+    rectangle : x.rectangle ≡ y.rectangle
+    rectangle = sym one.0.rectangle ∙ ap (λ (w : Window). w.rectangle) window ∙ other.0.rectangle
 
     mapped : x.mapped ≡ y.mapped
     mapped = sym one.0.mapped ∙ ap (λ (w : Window). w.mapped) window ∙ other.0.mapped
 
     first : (x ∷ ones) ≡ (y ∷ ones)
-    first = λ i. record (alike i) { place = place i; mapped = mapped i } ∷ ones
+    first = λ i. record (alike i) { rectangle = rectangle i; mapped = mapped i } ∷ ones
 
 module _ (own : Windowing) (store : Store) where
   -- the window of a shape that was read, which has the shape's number
@@ -177,7 +177,7 @@ module _ (own : Windowing) (store : Store) where
       let here : shape_of own.packs store window widget ≡ shape = some_same (shape_of own.packs store window widget) shape seen in
       let number : window.number ≡ n = eqb-true window.number n (find_passes (λ w. w.number == n) window own.tree.windows is) in
       subst (λ (s : Shape). (s.number ≡ n) × IsRead own.tree s) here
-      (number, record { window = window; there = ap (λ m. window_at m own.tree) number ∙ is; place = refl; mapped = refl })
+      (number, record { window = window; there = ap (λ m. window_at m own.tree) number ∙ is; rectangle = refl; mapped = refl })
 
   all_read : (ns : List ℕ) → AllRead own.tree (filter_map (shape_at own store) ns)
   unfolding AllRead

@@ -10,7 +10,7 @@ use Rattle.tk_tree.specs.declared.window.Window.{Window}
 -- the window with a number, if it is there, mapped or not, at the rectangle that it has
 abbrev pub mapped_as : ℕ → Bool → Option Window → Tree → Tree
 mapped_as number mapped None own = own
-mapped_as number mapped (Some window) own = with_change number (with_place window.place mapped) own
+mapped_as number mapped (Some window) own = with_change number (with_place window.rectangle mapped) own
 
 abbrev pub with_mapped : ℕ → Bool → Tree → Tree
 with_mapped number mapped own = mapped_as number mapped (window_at number own) own

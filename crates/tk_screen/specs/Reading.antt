@@ -8,7 +8,7 @@ use Rattle.tk_tree.specs.declared.window.Window.{Window}
 pub record IsRead (own : Tree) (shape : Shape) : Type 0 where
   pub window : Window
   pub there : window_at shape.number own ≡ Some window
-  pub place : window.place ≡ shape.place
+  pub rectangle : window.rectangle ≡ shape.rectangle
   pub mapped : window.mapped ≡ shape.mapped
 
 unfoldable pub AllRead : Tree → List Shape → Type 0

@@ -40,7 +40,7 @@ shape_of packs store window widget = record {
   height = (requested widget (variable_text widget store)).1;
   border = amount_of BorderWidth widget.options;
   propagates = is_frame window.kind && propagates_in window.number packs;
-  place = window.place;
+  rectangle = window.rectangle;
   mapped = window.mapped;
 }
 

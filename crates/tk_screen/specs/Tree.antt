@@ -22,7 +22,7 @@ value_field (Some value) = codes " " ++ escaped value
 -- ` X Y W H MAPPED`
 abbrev pub place_fields : Window → List ℕ
 place_fields window =
-    field window.place.x ++ field window.place.y ++ field window.place.width ++ field window.place.height ++ field (flag window.mapped)
+    field window.rectangle.x ++ field window.rectangle.y ++ field window.rectangle.width ++ field window.rectangle.height ++ field (flag window.mapped)
 
 -- `win PATH CLASS X Y W H MAPPED VALUE`
 abbrev pub window_line : Windowing → Store → Window → List ℕ

@@ -67,7 +67,7 @@ fn shape_of(
                 owner: slot,
                 number,
             }),
-        place: window.place,
+        rectangle: window.rectangle,
         mapped: window.mapped,
     }
 }

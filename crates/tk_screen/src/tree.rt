@@ -41,10 +41,10 @@ fn push_value(out: &mut Vec<u8>, value: Option<Text>) -> Result<(), AllocError>
 fn push_place(out: &mut Vec<u8>, window: &Window) -> Result<(), AllocError>
     ensures { OnOk result (out.new.items ≡ out.old.items ++ place_fields window.now) }
 {
-    push_field(out, u64::from(window.place.x))?;
-    push_field(out, u64::from(window.place.y))?;
-    push_field(out, u64::from(window.place.width))?;
-    push_field(out, u64::from(window.place.height))?;
+    push_field(out, u64::from(window.rectangle.x))?;
+    push_field(out, u64::from(window.rectangle.y))?;
+    push_field(out, u64::from(window.rectangle.width))?;
+    push_field(out, u64::from(window.rectangle.height))?;
     push_field(out, u64::from(window.mapped))
 }
 

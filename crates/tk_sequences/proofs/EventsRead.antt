@@ -12,7 +12,7 @@ use Rattle.tk_sequences.specs.Grammar.IsAlone.{a_key as key_alone, a_button as b
 use Rattle.tk_sequences.specs.Grammar.IsEvent.{type_alone, type_and_detail, detail_alone}
 use Rattle.tk_sequences.specs.Grammar.IsFaultyEvent.{missing, repeated, unknown, behind_alone, uncounted, no_detail as bad_detail, no_key as bad_key, no_button as bad_button, behind_both}
 use Rattle.tk_sequences.specs.Modifiers.{modifier_bit}
-use Rattle.tk_sequences.specs.Reading.{Outcome, ◌>>=◌, prefix_named, key_meant, key_or_fault, button_or_fault, detail_of, detail_behind, may_repeat, typed, button_or_key, alone, untyped, typed_or_not, headed, with_prefix, pattern_behind}
+use Rattle.tk_sequences.specs.Reading.{OrFault, ◌>>=◌, prefix_named, key_meant, key_or_fault, button_or_fault, detail_of, detail_behind, may_repeat, typed, button_or_key, alone, untyped, typed_or_not, headed, with_prefix, pattern_behind}
 use Rattle.tk_sequences.specs.Words.{button_named, is_single}
 use Rattle.tk_sequences.specs.Types.{type_named, is_key_type, is_button_type}
 use Rattle.tk_sequences.specs.declared.detail.Detail.{Detail}
@@ -106,23 +106,23 @@ detail_read (button_of_type {kind} {word} {button} is named) whole = button_deta
 
 -- what stands behind a type
 behind_read : (whole : List ℕ) (kind : EventType) (word : List ℕ) (detail : Detail) → detail_of whole kind word ≡ Ok detail → detail_behind whole kind (word ∷ []) ≡ Ok (Some detail)
-behind_read whole kind word detail is = ap (λ (d : Outcome Detail). d >>= (λ found. Ok (Some found))) is
+behind_read whole kind word detail is = ap (λ (d : OrFault Detail). d >>= (λ found. Ok (Some found))) is
 
 behind_fault : (whole : List ℕ) (kind : EventType) (word : List ℕ) (words : List (List ℕ)) (fault : SequenceFault) → detail_of whole kind word ≡ Err fault
     → detail_behind whole kind (word ∷ words) ≡ Err fault
-behind_fault whole kind word [] fault is = ap (λ (d : Outcome Detail). d >>= (λ found. Ok (Some found))) is
-behind_fault whole kind word (other ∷ words) fault is = ap (λ (d : Outcome Detail). d >>= (λ found. Err (BadSequence whole))) is
+behind_fault whole kind word [] fault is = ap (λ (d : OrFault Detail). d >>= (λ found. Ok (Some found))) is
+behind_fault whole kind word (other ∷ words) fault is = ap (λ (d : OrFault Detail). d >>= (λ found. Err (BadSequence whole))) is
 
 behind_more : (whole : List ℕ) (kind : EventType) (word other : List ℕ) (words : List (List ℕ)) (detail : Detail) → detail_of whole kind word ≡ Ok detail
     → detail_behind whole kind (word ∷ other ∷ words) ≡ Err (BadSequence whole)
-behind_more whole kind word other words detail is = ap (λ (d : Outcome Detail). d >>= (λ found. Err (BadSequence whole))) is
+behind_more whole kind word other words detail is = ap (λ (d : OrFault Detail). d >>= (λ found. Err (BadSequence whole))) is
 
 -- a fault of what stands behind a type is that of the whole where the type may be counted so, and where it is the same anyway
 typed_fault : (whole : List ℕ) (held : ℕ) (times : Repetition) (kind : EventType) (words : List (List ℕ)) (fault : SequenceFault) (t : Bool) → (is_single times || may_repeat kind) ≡ t
     → (t ≡ false → BadSequence whole ≡ fault) → detail_behind whole kind words ≡ Err fault → typed whole held times kind words ≡ Err fault
 typed_fault whole held times kind words fault true may same is =
     ap (λ (t : Bool). cond t (detail_behind whole kind words >>= (λ detail. Ok (record { modifiers = held; times = times; kind = kind; detail = detail }))) (Err (BadSequence whole))) may
-    ∙ ap (λ (d : Outcome (Option Detail)). d >>= (λ detail. Ok (record { modifiers = held; times = times; kind = kind; detail = detail }))) is
+    ∙ ap (λ (d : OrFault (Option Detail)). d >>= (λ detail. Ok (record { modifiers = held; times = times; kind = kind; detail = detail }))) is
 typed_fault whole held times kind words fault false may same is =
     ap (λ (t : Bool). cond t (detail_behind whole kind words >>= (λ detail. Ok (record { modifiers = held; times = times; kind = kind; detail = detail }))) (Err (BadSequence whole))) may
     ∙ ap (λ f. Err f) (same refl)

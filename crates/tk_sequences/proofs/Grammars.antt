@@ -12,7 +12,7 @@ use Rattle.tk_sequences.specs.Grammar.{IsGap, HasNoClosing, BeginsWith, IsVirtua
 use Rattle.tk_sequences.specs.Laws.{SequencesAreRead, FaultsAreTold, IsOneOrOther, IsOneSequence, IsOneFault, IsNotBoth}
 use Rattle.tk_sequences.proofs.NameLemmas.{name_in_some, name_in_none}
 use Rattle.tk_sequences.specs.Patterns.{count_of}
-use Rattle.tk_sequences.specs.Reading.{Outcome, ◌>>=◌, Between, patterns_from, some_patterns, physical, begins_with_bracket, has_brackets, named_or_physical, parsed}
+use Rattle.tk_sequences.specs.Reading.{OrFault, ◌>>=◌, Between, patterns_from, some_patterns, physical, begins_with_bracket, has_brackets, named_or_physical, parsed}
 use Rattle.tk_sequences.specs.Words.{in_brackets, is_some_text, has_no_closing, is_name, middle, name_in}
 use Rattle.tk_sequences.specs.declared.fault.SequenceFault.{SequenceFault}
 use Rattle.tk_sequences.specs.declared.fault.SequenceFault.TheVariants.{BadSequence}
@@ -95,12 +95,12 @@ by_name text found is = ap (named_or_physical text) is
 no_name : (text : List ℕ) → has_brackets text ≡ false → name_in text ≡ None
 no_name text none = sym (name_in_none text (λ name named same. absurd (let has : has_brackets text ≡ true = ap has_brackets same in cc)))
 
-by_patterns : (text : List ℕ) (read : Outcome (List Pattern)) → has_brackets text ≡ false → patterns_from text Between 32 text ≡ read → parsed text ≡ (read >>= some_patterns text)
+by_patterns : (text : List ℕ) (read : OrFault (List Pattern)) → has_brackets text ≡ false → patterns_from text Between 32 text ≡ read → parsed text ≡ (read >>= some_patterns text)
 unfolding physical
 by_patterns text read none is =
     by_name text None (no_name text none)
     ∙ ap (λ (t : Bool). cond t (Err (BadSequence text)) (patterns_from text Between 32 text >>= some_patterns text)) none
-    ∙ ap (λ (r : Outcome (List Pattern)). r >>= some_patterns text) is
+    ∙ ap (λ (r : OrFault (List Pattern)). r >>= some_patterns text) is
 
 -- ── the grammar is read ──
 some_are : (text : List ℕ) (patterns : List Pattern) → patterns ≢ [] → some_patterns text patterns ≡ Ok (Physical patterns)

@@ -16,7 +16,7 @@ use Rattle.tk_sequences.specs.Grammar.IsPattern.{character, brackets}
 use Rattle.tk_sequences.specs.Grammar.IsFaulty.{character as bad_character, unclosed as never_closed, brackets as bad_brackets}
 use Rattle.tk_sequences.proofs.PieceLemmas.{patterns_behind, unclosed, closed, plain_first, plain_refused}
 use Rattle.tk_sequences.specs.Patterns.{count_of, times_of}
-use Rattle.tk_sequences.specs.Reading.{Outcome, pattern_behind, pattern_of, plain_key, plain_pattern, Between, Within, onto, counted, patterns_from, begins_with_bracket, has_brackets}
+use Rattle.tk_sequences.specs.Reading.{OrFault, pattern_behind, pattern_of, plain_key, plain_pattern, Between, Within, onto, counted, patterns_from, begins_with_bracket, has_brackets}
 use Rattle.tk_sequences.specs.declared.fault.SequenceFault.{SequenceFault}
 use Rattle.tk_sequences.specs.declared.fault.SequenceFault.TheVariants.{BadSequence}
 use Rattle.tk_sequences.specs.declared.pattern.Pattern.{Pattern}
@@ -46,10 +46,10 @@ brackets_is whole inner words are = ap (pattern_behind whole 0 Single) (fields_a
 inner_inside : (inner : List ℕ) (words : List (List ℕ)) (pattern : Pattern) → AreFields inner words → AreOf words pattern → list_all is_inside inner ≡ true
 inner_inside inner words pattern are is = fields_inside inner words are (words_inside words pattern is)
 
-within_read : (whole inner rest : List ℕ) (room : ℕ) (outcome : Outcome Pattern) → All (λ byte. byte ≢ 62) inner → pattern_of whole inner ≡ outcome
+within_read : (whole inner rest : List ℕ) (room : ℕ) (outcome : OrFault Pattern) → All (λ byte. byte ≢ 62) inner → pattern_of whole inner ≡ outcome
     → patterns_from whole Between room (60 ∷ (inner ++ 62 ∷ rest)) ≡ counted whole room outcome (λ left. patterns_from whole Between left rest)
 within_read whole inner rest room outcome none read =
-    closed whole [] room inner rest (λ k less. none k 0 less) ∙ ap (λ (p : Outcome Pattern). counted whole room p (λ left. patterns_from whole Between left rest)) read
+    closed whole [] room inner rest (λ k less. none k 0 less) ∙ ap (λ (p : OrFault Pattern). counted whole room p (λ left. patterns_from whole Between left rest)) read
 
 pattern_read : {own : List ℕ} {pattern : Pattern} → IsPattern own pattern → (whole rest : List ℕ) (room : ℕ)
     → patterns_from whole Between room (own ++ rest) ≡ counted whole room (Ok pattern) (λ left. patterns_from whole Between left rest)
@@ -61,24 +61,24 @@ pattern_read (brackets inner {fields} {pattern} are is) whole rest room =
     ∙ within_read whole inner rest room (Ok pattern) (λ k d less. not_closing _ (inside k d less)) (brackets_is whole inner fields are ∙ fields_read whole fields pattern is)
 
 -- ── patterns, and what is read behind them ──
-counted_within : (whole : List ℕ) (room : ℕ) (pattern : Pattern) (rest : ℕ → Outcome (List Pattern)) → times_of pattern.times ≤ room
+counted_within : (whole : List ℕ) (room : ℕ) (pattern : Pattern) (rest : ℕ → OrFault (List Pattern)) → times_of pattern.times ≤ room
     → counted whole room (Ok pattern) rest ≡ onto pattern (rest (room - times_of pattern.times))
 counted_within whole room pattern rest within =
     ap (λ (t : Bool). cond t (onto pattern (rest (room - times_of pattern.times))) (Err (BadSequence whole))) (le-leb (times_of pattern.times) room within)
 
-onto_behind : (pattern : Pattern) (patterns : List Pattern) (outcome : Outcome (List Pattern)) → onto pattern (patterns_behind patterns outcome) ≡ patterns_behind (pattern ∷ patterns) outcome
+onto_behind : (pattern : Pattern) (patterns : List Pattern) (outcome : OrFault (List Pattern)) → onto pattern (patterns_behind patterns outcome) ≡ patterns_behind (pattern ∷ patterns) outcome
 onto_behind pattern patterns (Ok more) = refl
 onto_behind pattern patterns (Err fault) = refl
 
-nothing_behind : (outcome : Outcome (List Pattern)) → outcome ≡ patterns_behind [] outcome
+nothing_behind : (outcome : OrFault (List Pattern)) → outcome ≡ patterns_behind [] outcome
 nothing_behind (Ok more) = refl
 nothing_behind (Err fault) = refl
 
 -- what is read of the rest, whatever room is left
-abbrev pub IsRead : List ℕ → List ℕ → Outcome (List Pattern) → Type 0
+abbrev pub IsRead : List ℕ → List ℕ → OrFault (List Pattern) → Type 0
 IsRead whole text outcome = (room : ℕ) → patterns_from whole Between room text ≡ outcome
 
-pub begins_read : (patterns : List Pattern) (text rest whole : List ℕ) (room : ℕ) (outcome : Outcome (List Pattern)) → BeginsWith text patterns rest → count_of patterns ≤ room → IsRead whole rest outcome
+pub begins_read : (patterns : List Pattern) (text rest whole : List ℕ) (room : ℕ) (outcome : OrFault (List Pattern)) → BeginsWith text patterns rest → count_of patterns ≤ room → IsRead whole rest outcome
     → patterns_from whole Between room text ≡ patterns_behind patterns outcome
 begins_read [] text rest whole room outcome same few read = ap (λ (bytes : List ℕ). patterns_from whole Between room bytes) same ∙ read room ∙ nothing_behind outcome
 begins_read (pattern ∷ patterns) text rest whole room outcome (gap, own, behind, cut, is_gap, is, begins) few read =

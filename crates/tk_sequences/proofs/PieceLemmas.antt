@@ -10,18 +10,18 @@ use Rattle.std.proofs.lemmas.List.Sums.{prefix_len-le-length, prefix_len-drop_no
 use Rattle.std.proofs.lemmas.Str.{IsCharBoundary-after_ascii, IsCharBoundary-start, IsCharBoundary-at_seam, IsUtf8-drop}
 use Rattle.tcl_text.specs.Backslash.{is_white}
 use Rattle.tk_sequences.specs.Patterns.{count_of, times_of}
-use Rattle.tk_sequences.specs.Reading.{Outcome, ReadingPlace, Between, Within, patterns_from, counted, onto, pattern_of, plain_pattern, plain_key, behind_white, CutsOff, IsRefused}
+use Rattle.tk_sequences.specs.Reading.{OrFault, ReadingPlace, Between, Within, patterns_from, counted, onto, pattern_of, plain_pattern, plain_key, behind_white, CutsOff, IsRefused}
 use Rattle.tk_sequences.specs.declared.fault.SequenceFault.{SequenceFault}
 use Rattle.tk_sequences.specs.declared.fault.SequenceFault.TheVariants.{BadSequence, BadKeysym}
 use Rattle.tk_sequences.specs.declared.pattern.Pattern.{Pattern}
 
 -- ---- one pattern behind others
 
-abbrev pub patterns_behind : List Pattern → Outcome (List Pattern) → Outcome (List Pattern)
+abbrev pub patterns_behind : List Pattern → OrFault (List Pattern) → OrFault (List Pattern)
 patterns_behind front (Ok more) = Ok (front ++ more)
 patterns_behind front (Err fault) = Err fault
 
-pub patterns_behind-onto : (front : List Pattern) (pattern : Pattern) (rest : Outcome (List Pattern)) → patterns_behind (front ++ pattern ∷ []) rest ≡ patterns_behind front (onto pattern rest)
+pub patterns_behind-onto : (front : List Pattern) (pattern : Pattern) (rest : OrFault (List Pattern)) → patterns_behind (front ++ pattern ∷ []) rest ≡ patterns_behind front (onto pattern rest)
 patterns_behind-onto front pattern (Ok more) = ap Ok (append_assoc front (pattern ∷ []) more)
 patterns_behind-onto front pattern (Err fault) = refl
 
@@ -145,14 +145,14 @@ pub bracket_first : (whole text inner behind : List ℕ) (pattern : Pattern) →
     → ((k : ℕ) → k < length inner → get_or inner k 0 ≢ 62) → pattern_of whole inner ≡ Ok pattern → CutsOff whole pattern text (drop (length text - length behind) text)
 bracket_first whole text inner behind pattern some at is none read = λ room.
     opened whole text room some at ∙ ap (patterns_from whole (Within []) room) is ∙ closed whole [] room inner behind none
-    ∙ ap (λ (p : Outcome Pattern). counted whole room p (λ left. patterns_from whole Between left behind)) read
+    ∙ ap (λ (p : OrFault Pattern). counted whole room p (λ left. patterns_from whole Between left behind)) read
     ∙ ap (λ (rest : List ℕ). counted whole room (Ok pattern) (λ left. patterns_from whole Between left rest)) (sym (bracket_behind text inner behind some at is))
 
 pub bracket_refused : (whole text inner behind : List ℕ) (fault : SequenceFault) → 0 < length text → get_or text 0 0 ≡ 60 → drop 1 text ≡ inner ++ 62 ∷ behind
     → ((k : ℕ) → k < length inner → get_or inner k 0 ≢ 62) → pattern_of whole inner ≡ Err fault → IsRefused whole text fault
 bracket_refused whole text inner behind fault some at is none read = λ room.
     opened whole text room some at ∙ ap (patterns_from whole (Within []) room) is ∙ closed whole [] room inner behind none
-    ∙ ap (λ (p : Outcome Pattern). counted whole room p (λ left. patterns_from whole Between left behind)) read
+    ∙ ap (λ (p : OrFault Pattern). counted whole room p (λ left. patterns_from whole Between left behind)) read
 
 pub bracket_open : (whole text : List ℕ) → 0 < length text → get_or text 0 0 ≡ 60 → ((k : ℕ) → k < length (drop 1 text) → get_or (drop 1 text) k 0 ≢ 62) → IsRefused whole text (BadSequence whole)
 bracket_open whole text some at none = λ room. opened whole text room some at ∙ unclosed whole [] room (drop 1 text) none
@@ -166,7 +166,7 @@ pub record IsRead (whole : List ℕ) (patterns : List Pattern) (room : ℕ) (res
   pub black : 0 < length rest → is_white (get_or rest 0 0) ≡ false
   pub utf8 : IsUtf8 rest
 
-patterns_behind-nil : (patterns : Outcome (List Pattern)) → patterns_behind [] patterns ≡ patterns
+patterns_behind-nil : (patterns : OrFault (List Pattern)) → patterns_behind [] patterns ≡ patterns
 patterns_behind-nil (Ok patterns) = refl
 patterns_behind-nil (Err fault) = refl
 
@@ -179,7 +179,7 @@ read_first whole rest patterns none is utf8 = record {
   utf8 = utf8;
 }
 
-counted_within : (whole : List ℕ) (room : ℕ) (pattern : Pattern) (rest : ℕ → Outcome (List Pattern)) → times_of pattern.times ≤ room
+counted_within : (whole : List ℕ) (room : ℕ) (pattern : Pattern) (rest : ℕ → OrFault (List Pattern)) → times_of pattern.times ≤ room
     → counted whole room (Ok pattern) rest ≡ onto pattern (rest (room - times_of pattern.times))
 counted_within whole room pattern rest within =
     let is : nat_le (times_of pattern.times) room ≡ true = le-leb (times_of pattern.times) room within in
@@ -192,7 +192,7 @@ read_more whole rest behind left patterns more pattern room now read cuts within
       ap (λ (ps : List Pattern). patterns_behind ps (patterns_from whole Between now left)) all
       ∙ patterns_behind-onto patterns pattern (patterns_from whole Between now left)
       ∙ ap (λ n. patterns_behind patterns (onto pattern (patterns_from whole Between n left))) is
-      ∙ ap (λ (ps : Outcome (List Pattern)). patterns_behind patterns (onto pattern ps)) (ap (patterns_from whole Between (room - times_of pattern.times)) rest_is ∙ sym (white-skip whole (room - times_of pattern.times) behind))
+      ∙ ap (λ (ps : OrFault (List Pattern)). patterns_behind patterns (onto pattern ps)) (ap (patterns_from whole Between (room - times_of pattern.times)) rest_is ∙ sym (white-skip whole (room - times_of pattern.times) behind))
       ∙ ap (patterns_behind patterns) (sym (cuts room ∙ counted_within whole room pattern (λ left. patterns_from whole Between left behind) within))
       ∙ read.same;
   counted =

@@ -8,7 +8,7 @@ use Rattle.tk_sequences.proofs.WordLemmas.{is_inside, both_first, both_second, i
 use Rattle.tk_sequences.proofs.WrittenLemmas.{inner_of, pattern_is, inner_inside, patterns_back}
 use Rattle.tk_sequences.proofs.NameLemmas.{name_in_none}
 use Rattle.tk_sequences.specs.Patterns.{count_of}
-use Rattle.tk_sequences.specs.Reading.{Outcome, ◌>>=◌, Between, patterns_from, some_patterns, physical, begins_with_bracket, has_brackets, named_or_physical, parsed}
+use Rattle.tk_sequences.specs.Reading.{OrFault, ◌>>=◌, Between, patterns_from, some_patterns, physical, begins_with_bracket, has_brackets, named_or_physical, parsed}
 use Rattle.tk_sequences.specs.Words.{in_brackets, is_name, middle, name_in}
 use Rattle.tk_sequences.specs.Writing.{patterns_written, canonical}
 use Rattle.tk_sequences.specs.declared.fault.SequenceFault.TheVariants.{BadSequence}
@@ -53,7 +53,7 @@ patterns_again pattern patterns reads few =
     let none : None ≡ name_in text = name_in_none text (λ name named same. no_name (inner_of pattern) (patterns_written patterns) name (inner_inside pattern reads.0) (sym (pattern_is pattern (patterns_written patterns)) ∙ same)) in
     ap (named_or_physical text) (sym none)
     ∙ ap (λ (t : Bool). cond t (Err (BadSequence text)) (patterns_from text Between 32 text >>= some_patterns text)) (no_brackets (pattern ∷ patterns) reads)
-    ∙ ap (λ (read : Outcome (List Pattern)). read >>= some_patterns text) (patterns_back text 32 (pattern ∷ patterns) reads few)
+    ∙ ap (λ (read : OrFault (List Pattern)). read >>= some_patterns text) (patterns_back text 32 (pattern ∷ patterns) reads few)
 
 some_back : (whole : List ℕ) (patterns : List Pattern) (sequence : Sequence) → AreRead 32 patterns → some_patterns whole patterns ≡ Ok sequence → parsed (canonical sequence) ≡ Ok sequence
 unfolding canonical

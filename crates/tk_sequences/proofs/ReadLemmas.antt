@@ -14,7 +14,7 @@ use Rattle.tk_base.proofs.NamesLemmas.{length_key_names}
 use Rattle.tk_base.specs.Names.{key_names, key_named, key_of_character}
 use Rattle.tk_sequences.specs.Modifiers.{modifier_bit}
 use Rattle.tk_sequences.specs.Patterns.{count_of, times_of}
-use Rattle.tk_sequences.specs.Reading.{Outcome, ◌>>=◌, fields, prefix_named, key_of_one, key_meant, key_or_fault, button_or_fault, detail_of, detail_behind, may_repeat, typed, button_or_key, type_of_detail, alone, untyped, typed_or_not, headed, with_prefix, pattern_behind, pattern_of, plain_key, plain_pattern, ReadingPlace, Between, Within, onto, counted, patterns_from}
+use Rattle.tk_sequences.specs.Reading.{OrFault, ◌>>=◌, fields, prefix_named, key_of_one, key_meant, key_or_fault, button_or_fault, detail_of, detail_behind, may_repeat, typed, button_or_key, type_of_detail, alone, untyped, typed_or_not, headed, with_prefix, pattern_behind, pattern_of, plain_key, plain_pattern, ReadingPlace, Between, Within, onto, counted, patterns_from}
 use Rattle.tk_sequences.specs.Words.{button_named, is_single}
 use Rattle.tk_sequences.specs.Types.{type_named, is_key_type, is_button_type}
 use Rattle.tk_sequences.specs.declared.detail.Detail.{Detail}
@@ -34,7 +34,7 @@ pub if_by : {T G : Type 0} (t : Bool) (a b x : T) → cond t a b ≡ x → (t �
 if_by true a b x h f g = f refl h
 if_by false a b x h f g = g refl h
 
-pub then_by : {T U G : Type 0} (outcome : Outcome T) (rest : T → Outcome U) (x : U) → (outcome >>= rest) ≡ Ok x → ((value : T) → outcome ≡ Ok value → rest value ≡ Ok x → G) → G
+pub then_by : {T U G : Type 0} (outcome : OrFault T) (rest : T → OrFault U) (x : U) → (outcome >>= rest) ≡ Ok x → ((value : T) → outcome ≡ Ok value → rest value ≡ Ok x → G) → G
 then_by (Ok value) rest x h f = f value refl h
 then_by (Err fault) rest x h f = absurd (cc)
 
@@ -218,7 +218,7 @@ pub record AreRead (room : ℕ) (patterns : List Pattern) : Type 0 where
   pub each : AllRead patterns
   pub few : count_of patterns ≤ room
 
-onto_read : (room : ℕ) (pattern : Pattern) (rest : Outcome (List Pattern)) (patterns : List Pattern) → times_of pattern.times ≤ room → Reads pattern → onto pattern rest ≡ Ok patterns
+onto_read : (room : ℕ) (pattern : Pattern) (rest : OrFault (List Pattern)) (patterns : List Pattern) → times_of pattern.times ≤ room → Reads pattern → onto pattern rest ≡ Ok patterns
     → ((more : List Pattern) → rest ≡ Ok more → AreRead (room - times_of pattern.times) more) → AreRead room patterns
 onto_read room pattern (Err fault) patterns within reads h f = absurd (cc)
 onto_read room pattern (Ok more) patterns within reads h f =
@@ -227,7 +227,7 @@ onto_read room pattern (Ok more) patterns within reads h f =
     let sum = sum_by-cons (λ (p : Pattern). times_of p.times) pattern more in
     subst (AreRead room) same (record { each = (reads, rest.each); few = omega (arith, sum, rest.few, within) })
 
-counted_read : (whole : List ℕ) (room : ℕ) (outcome : Outcome Pattern) (rest : ℕ → Outcome (List Pattern)) (patterns : List Pattern) → counted whole room outcome rest ≡ Ok patterns
+counted_read : (whole : List ℕ) (room : ℕ) (outcome : OrFault Pattern) (rest : ℕ → OrFault (List Pattern)) (patterns : List Pattern) → counted whole room outcome rest ≡ Ok patterns
     → ((pattern : Pattern) → outcome ≡ Ok pattern → Reads pattern) → ((left : ℕ) (more : List Pattern) → rest left ≡ Ok more → AreRead left more) → AreRead room patterns
 counted_read whole room (Err fault) rest patterns h f g = absurd (cc)
 counted_read whole room (Ok pattern) rest patterns h f g =

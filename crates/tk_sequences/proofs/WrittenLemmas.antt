@@ -12,7 +12,7 @@ use Rattle.tk_base.proofs.NamesLemmas.{named-name}
 use Rattle.tk_sequences.proofs.PieceLemmas.{closed}
 use Rattle.tk_sequences.specs.Modifiers.{all_modifiers, has_modifier, modifier_name}
 use Rattle.tk_sequences.specs.Patterns.{count_of, times_of}
-use Rattle.tk_sequences.specs.Reading.{Outcome, fields, key_meant, detail_of, detail_behind, may_repeat, typed, headed, pattern_behind, pattern_of, Between, counted, patterns_from}
+use Rattle.tk_sequences.specs.Reading.{OrFault, fields, key_meant, detail_of, detail_behind, may_repeat, typed, headed, pattern_behind, pattern_of, Between, counted, patterns_from}
 use Rattle.tk_sequences.specs.Words.{is_some_text, is_single}
 use Rattle.tk_sequences.specs.Types.{type_name}
 use Rattle.tk_sequences.specs.Writing.{modifier_written, held_written, repetition_written, detail_written, some_detail_written, pattern_written, patterns_written}
@@ -165,7 +165,7 @@ inner_inside pattern reads =
     (both_inside (type_name pattern.kind) (some_detail_written pattern.detail) (kind_inside pattern.kind) (detail_inside pattern.kind pattern.detail reads.detail)))
 
 -- ── all patterns ──
-counted_back : (whole : List ℕ) (room : ℕ) (pattern : Pattern) (rest : ℕ → Outcome (List Pattern)) (patterns : List Pattern) → times_of pattern.times ≤ room → rest (room - times_of pattern.times) ≡ Ok patterns
+counted_back : (whole : List ℕ) (room : ℕ) (pattern : Pattern) (rest : ℕ → OrFault (List Pattern)) (patterns : List Pattern) → times_of pattern.times ≤ room → rest (room - times_of pattern.times) ≡ Ok patterns
     → counted whole room (Ok pattern) rest ≡ Ok (pattern ∷ patterns)
 counted_back whole room pattern rest patterns within behind = rw (le-leb (times_of pattern.times) room within, behind) refl
 
@@ -178,5 +178,5 @@ patterns_back whole room (pattern ∷ patterns) reads few =
     let bytes = AllPass-from_list_all is_inside (inner_of pattern) (inner_inside pattern reads.0) in
     ap (patterns_from whole Between room) (pattern_is pattern (patterns_written patterns))
     ∙ closed whole [] room (inner_of pattern) (patterns_written patterns) (λ k less. not_closing _ (bytes k 0 less))
-    ∙ ap (λ (p : Outcome Pattern). counted whole room p (λ left. patterns_from whole Between left (patterns_written patterns))) (pattern_back whole pattern reads.0)
+    ∙ ap (λ (p : OrFault Pattern). counted whole room p (λ left. patterns_from whole Between left (patterns_written patterns))) (pattern_back whole pattern reads.0)
     ∙ counted_back whole room pattern (λ left. patterns_from whole Between left (patterns_written patterns)) patterns within (patterns_back whole (room - times_of pattern.times) patterns reads.1 left)

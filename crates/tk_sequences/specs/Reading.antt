@@ -25,12 +25,12 @@ use Rattle.tk_sequences.specs.declared.reading.Prefix.{Prefix}
 use Rattle.tk_sequences.specs.declared.reading.Prefix.TheVariants as prefixes
 
 -- what was read, or why it was refused
-abbrev pub Outcome : Type 0 → Type 0
-Outcome T = Result T SequenceFault
+abbrev pub OrFault : Type 0 → Type 0
+OrFault T = Result T SequenceFault
 
 -- the rest of a reading, unless a step before it was refused
 infixl 10 ◌>>=◌
-abbrev pub ◌>>=◌ : {T U : Type 0} → Outcome T → (T → Outcome U) → Outcome U
+abbrev pub ◌>>=◌ : {T U : Type 0} → OrFault T → (T → OrFault U) → OrFault U
 Ok value >>= rest = rest value
 Err fault >>= rest = Err fault
 
@@ -59,22 +59,22 @@ key_meant word = option_or (key_named word) (key_of_one word)
 -- ---- one pattern
 
 -- the detail of a type, or none of the right kind: an unknown key is told by itself, anything else by the whole sequence
-abbrev pub key_or_fault : List ℕ → Option ℕ → Outcome Detail
+abbrev pub key_or_fault : List ℕ → Option ℕ → OrFault Detail
 key_or_fault word (Some key) = Ok (details.Key key)
 key_or_fault word None = Err (BadKeysym word)
 
-abbrev pub button_or_fault : List ℕ → Option ℕ → Outcome Detail
+abbrev pub button_or_fault : List ℕ → Option ℕ → OrFault Detail
 button_or_fault whole (Some button) = Ok (details.Button button)
 button_or_fault whole None = Err (BadSequence whole)
 
-unfoldable pub detail_of : List ℕ → EventType → List ℕ → Outcome Detail
+unfoldable pub detail_of : List ℕ → EventType → List ℕ → OrFault Detail
 detail_of whole kind word =
     if is_key_type kind then key_or_fault word (key_meant word)
     else (if is_button_type kind then button_or_fault whole (button_named word)
     else Err (BadSequence whole))
 
 -- a type with what stands behind it, of which only one may be left
-abbrev pub detail_behind : List ℕ → EventType → List (List ℕ) → Outcome (Option Detail)
+abbrev pub detail_behind : List ℕ → EventType → List (List ℕ) → OrFault (Option Detail)
 detail_behind whole kind [] = Ok None
 detail_behind whole kind (word ∷ []) = do
   detail ← detail_of whole kind word
@@ -87,7 +87,7 @@ detail_behind whole kind (word ∷ other ∷ words) = do
 abbrev pub may_repeat : EventType → Bool
 may_repeat kind = is_key_type kind || is_button_type kind
 
-abbrev pub typed : List ℕ → ℕ → Repetition → EventType → List (List ℕ) → Outcome Pattern
+abbrev pub typed : List ℕ → ℕ → Repetition → EventType → List (List ℕ) → OrFault Pattern
 typed whole held times kind words =
     if is_single times || may_repeat kind then (do
       detail ← detail_behind whole kind words
@@ -95,7 +95,7 @@ typed whole held times kind words =
     else Err (BadSequence whole)
 
 -- a detail without a type: a button, or else a key
-abbrev pub button_or_key : List ℕ → Option ℕ → Outcome Detail
+abbrev pub button_or_key : List ℕ → Option ℕ → OrFault Detail
 button_or_key word (Some button) = Ok (details.Button button)
 button_or_key word None = key_or_fault word (key_meant word)
 
@@ -103,21 +103,21 @@ abbrev pub type_of_detail : Detail → EventType
 type_of_detail (details.Key key) = types.Key
 type_of_detail (details.Button button) = types.Button
 
-abbrev pub alone : List ℕ → ℕ → Repetition → Detail → List (List ℕ) → Outcome Pattern
+abbrev pub alone : List ℕ → ℕ → Repetition → Detail → List (List ℕ) → OrFault Pattern
 alone whole held times detail [] = Ok (record { modifiers = held; times = times; kind = type_of_detail detail; detail = Some detail })
 alone whole held times detail (word ∷ words) = Err (BadSequence whole)
 
-abbrev pub untyped : List ℕ → ℕ → Repetition → List ℕ → List (List ℕ) → Outcome Pattern
+abbrev pub untyped : List ℕ → ℕ → Repetition → List ℕ → List (List ℕ) → OrFault Pattern
 untyped whole held times word words = do
   detail ← button_or_key word (button_named word)
   alone whole held times detail words
 
-abbrev pub typed_or_not : List ℕ → ℕ → Repetition → List ℕ → List (List ℕ) → Option EventType → Outcome Pattern
+abbrev pub typed_or_not : List ℕ → ℕ → Repetition → List ℕ → List (List ℕ) → Option EventType → OrFault Pattern
 typed_or_not whole held times word words (Some kind) = typed whole held times kind words
 typed_or_not whole held times word words None = untyped whole held times word words
 
 -- what stands behind modifiers and repetition: a type, a detail, or both
-unfoldable pub headed : List ℕ → ℕ → Repetition → List ℕ → List (List ℕ) → Outcome Pattern
+unfoldable pub headed : List ℕ → ℕ → Repetition → List ℕ → List (List ℕ) → OrFault Pattern
 headed whole held times word words = typed_or_not whole held times word words (type_named word)
 
 -- one more modifier, a repetition where there is none so far, or else something other than these two
@@ -127,7 +127,7 @@ with_prefix (Some (prefixes.Repetition repetition)) held times other = times rep
 with_prefix None held times other = other
 
 -- the pattern that fields are, behind what is held and how often it comes
-abbrev pub pattern_behind : List ℕ → ℕ → Repetition → List (List ℕ) → Outcome Pattern
+abbrev pub pattern_behind : List ℕ → ℕ → Repetition → List (List ℕ) → OrFault Pattern
 pattern_behind whole held times [] = Err (BadSequence whole)
 pattern_behind whole held times (word ∷ words) =
     with_prefix (prefix_named word)
@@ -136,15 +136,15 @@ pattern_behind whole held times (word ∷ words) =
     (headed whole held times word words)
 
 -- the pattern in brackets
-unfoldable pub pattern_of : List ℕ → List ℕ → Outcome Pattern
+unfoldable pub pattern_of : List ℕ → List ℕ → OrFault Pattern
 pattern_of whole inner = pattern_behind whole 0 Single (fields inner)
 
 -- a key by its character, outside brackets
-abbrev pub plain_key : List ℕ → Option ℕ → Outcome Pattern
+abbrev pub plain_key : List ℕ → Option ℕ → OrFault Pattern
 plain_key whole (Some key) = Ok (record { modifiers = 0; times = Single; kind = types.Key; detail = Some (details.Key key) })
 plain_key whole None = Err (BadSequence whole)
 
-unfoldable pub plain_pattern : List ℕ → ℕ → Outcome Pattern
+unfoldable pub plain_pattern : List ℕ → ℕ → OrFault Pattern
 plain_pattern whole byte = plain_key whole (key_of_character byte)
 
 -- ---- patterns
@@ -154,18 +154,18 @@ pub data ReadingPlace : Type 0 where
   Between : ReadingPlace
   Within : List ℕ → ReadingPlace
 
-abbrev pub onto : Pattern → Outcome (List Pattern) → Outcome (List Pattern)
+abbrev pub onto : Pattern → OrFault (List Pattern) → OrFault (List Pattern)
 onto pattern (Ok patterns) = Ok (pattern ∷ patterns)
 onto pattern (Err fault) = Err fault
 
 -- a pattern and those behind it, where so many events still may come
-abbrev pub counted : List ℕ → ℕ → Outcome Pattern → (ℕ → Outcome (List Pattern)) → Outcome (List Pattern)
+abbrev pub counted : List ℕ → ℕ → OrFault Pattern → (ℕ → OrFault (List Pattern)) → OrFault (List Pattern)
 counted whole room (Err fault) rest = Err fault
 counted whole room (Ok pattern) rest =
     if nat_le (times_of pattern.times) room then onto pattern (rest (room - times_of pattern.times)) else Err (BadSequence whole)
 
 -- the patterns that a text is, from a place on
-abbrev pub patterns_from : List ℕ → ReadingPlace → ℕ → List ℕ → Outcome (List Pattern)
+abbrev pub patterns_from : List ℕ → ReadingPlace → ℕ → List ℕ → OrFault (List Pattern)
 patterns_from whole Between room [] = Ok []
 patterns_from whole (Within inner) room [] = Err (BadSequence whole)
 patterns_from whole Between room (byte ∷ rest) =
@@ -188,12 +188,12 @@ CutsOff whole pattern text behind = (room : ℕ)
 abbrev pub IsRefused : List ℕ → List ℕ → SequenceFault → Type 0
 IsRefused whole text fault = (room : ℕ) → patterns_from whole Between room text ≡ Err fault
 
-abbrev pub some_patterns : List ℕ → List Pattern → Outcome Sequence
+abbrev pub some_patterns : List ℕ → List Pattern → OrFault Sequence
 some_patterns whole [] = Err (BadSequence whole)
 some_patterns whole (pattern ∷ patterns) = Ok (Physical (pattern ∷ patterns))
 
 -- one or more patterns for few enough events
-unfoldable pub physical : List ℕ → Outcome Sequence
+unfoldable pub physical : List ℕ → OrFault Sequence
 physical whole = do
   patterns ← patterns_from whole Between most_events whole
   some_patterns whole patterns
@@ -209,10 +209,10 @@ abbrev pub has_brackets : List ℕ → Bool
 has_brackets [] = false
 has_brackets (byte ∷ bytes) = (byte == 60 && begins_with_bracket bytes) || has_brackets bytes
 
-abbrev pub named_or_physical : List ℕ → Option (List ℕ) → Outcome Sequence
+abbrev pub named_or_physical : List ℕ → Option (List ℕ) → OrFault Sequence
 named_or_physical text (Some name) = Ok (Virtual name)
 named_or_physical text None = if has_brackets text then Err (BadSequence text) else physical text
 
 -- a virtual event alone; or, where no `<<` stands in the text, patterns
-unfoldable pub parsed : List ℕ → Outcome Sequence
+unfoldable pub parsed : List ℕ → OrFault Sequence
 parsed text = named_or_physical text (name_in text)

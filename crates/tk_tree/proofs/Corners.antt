@@ -62,11 +62,11 @@ pub record IsAddedUp (own : Tree) (n x y : ℕ) (up : Option ℕ) : Type 0 where
   pub down_fits : y + 4294967295 * length (way_up up (reverse own.windows)) ≤ 4294967295 * length (way_up (Some n) (reverse own.windows))
 
 module _ (own : Tree) (sound : IsSound own) (n x y : ℕ) where
-  pub step_up : (number : ℕ) (window : Window) (px py : ℕ) → Some window ≡ window_at number own → px ≡ window.place.x → py ≡ window.place.y → px < 4294967296 → py < 4294967296
+  pub step_up : (number : ℕ) (window : Window) (px py : ℕ) → Some window ≡ window_at number own → px ≡ window.rectangle.x → py ≡ window.rectangle.y → px < 4294967296 → py < 4294967296
       → IsAddedUp own n x y (Some number) → IsAddedUp own n (x + px) (y + py) window.parent
   step_up number window px py is x_is y_is x_small y_small added =
-      let xs = sum_up own sound (λ w. w.place.x) number window is in
-      let ys = sum_up own sound (λ w. w.place.y) number window is in
+      let xs = sum_up own sound (λ w. w.rectangle.x) number window is in
+      let ys = sum_up own sound (λ w. w.rectangle.y) number window is in
       let long = length_up own sound number window is in
       let a = added.across_is in
       let b = added.down_is in

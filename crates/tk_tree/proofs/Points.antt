@@ -39,7 +39,7 @@ stand_all (window ∷ windows) rising older = (
 -- ── children from the newest on ──
 abbrev or_on : ℕ → ℕ → List Window → Option Window → List ℕ → List ℕ
 or_on x y whole None other = other
-or_on x y whole (Some child) other = if has_point x y child then child.number ∷ at_point child.number (x - child.place.x) (y - child.place.y) whole else other
+or_on x y whole (Some child) other = if has_point x y child then child.number ∷ at_point child.number (x - child.rectangle.x) (y - child.rectangle.y) whole else other
 
 -- the first of these children that has the point, and on from it
 abbrev pub at_children : ℕ → ℕ → List Window → List ℕ → List ℕ
@@ -72,11 +72,11 @@ by_children whole number x y (window ∷ windows) stand = by (is_child_of number
     one = ap (λ found. or_on x y whole found []) stand.0
 
     point : (t : Bool) → has_point x y window ≡ t → at_point number x y windows ≡ at_children x y whole (reverse (child_numbers number windows))
-        → (if has_point x y window then or_other (at_point number x y windows) (window.number ∷ at_point window.number (x - window.place.x) (y - window.place.y) windows) else at_point number x y windows)
+        → (if has_point x y window then or_other (at_point number x y windows) (window.number ∷ at_point window.number (x - window.rectangle.x) (y - window.rectangle.y) windows) else at_point number x y windows)
         ≡ or_other (at_children x y whole (reverse (child_numbers number windows))) (or_on x y whole (Some window) [])
     point true has rest =
-        rw has (ap (λ found. or_other found (window.number ∷ at_point window.number (x - window.place.x) (y - window.place.y) windows)) rest
-        ∙ ap (λ on. or_other (at_children x y whole (reverse (child_numbers number windows))) (window.number ∷ on)) (sym (stand.1 (x - window.place.x) (y - window.place.y))))
+        rw has (ap (λ found. or_other found (window.number ∷ at_point window.number (x - window.rectangle.x) (y - window.rectangle.y) windows)) rest
+        ∙ ap (λ on. or_other (at_children x y whole (reverse (child_numbers number windows))) (window.number ∷ on)) (sym (stand.1 (x - window.rectangle.x) (y - window.rectangle.y))))
     point false has rest = rw has (rest ∙ sym (or_nothing (at_children x y whole (reverse (child_numbers number windows)))))
 
     by : (b : Bool) → is_child_of number window ≡ b → at_point number x y windows ≡ at_children x y whole (reverse (child_numbers number windows))
@@ -93,5 +93,5 @@ from_children own sound number x y = by_children own.windows number x y own.wind
 pub newest_first : (x y : ℕ) (whole : List Window) (older : List ℕ) (newest : ℕ) → at_children x y whole (reverse (older ++ newest ∷ [])) ≡ or_on x y whole (numbered number_of newest whole) (at_children x y whole (reverse older))
 newest_first x y whole older newest = ap (at_children x y whole) (reverse-append older (newest ∷ []))
 
-pub has_it : (x y : ℕ) (child : Window) → has_point x y child ≡ true → (child.place.x ≤ x) × (child.place.y ≤ y)
+pub has_it : (x y : ℕ) (child : Window) → has_point x y child ≡ true → (child.rectangle.x ≤ x) × (child.rectangle.y ≤ y)
 has_it x y child has = grind (arith, has)

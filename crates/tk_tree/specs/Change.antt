@@ -9,7 +9,7 @@ use Rattle.tk_tree.specs.Window.{default_tags}
 abbrev pub changed : WindowChange → Window → Window
 changed Dying window = record window { dying = true }
 changed (Tags tags) window = record window { tags = tags }
-changed (Place place mapped) window = record window { place = place; mapped = mapped }
+changed (Place place mapped) window = record window { rectangle = place; mapped = mapped }
 
 -- a window that is being destroyed
 abbrev pub dying : Window → Window
@@ -24,4 +24,4 @@ abbrev pub with_tags : List (List ℕ) → Window → Window
 with_tags tags window = record window { tags = tags_or_default tags window }
 
 abbrev pub with_place : Rect → Bool → Window → Window
-with_place place mapped window = record window { place = place; mapped = mapped }
+with_place place mapped window = record window { rectangle = place; mapped = mapped }

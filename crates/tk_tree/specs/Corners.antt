@@ -12,10 +12,10 @@ asked part own number = option_map_or part (window_at number own) 0
 
 -- how far across and down a window lies in its parent
 abbrev pub across : Tree → ℕ → ℕ
-across = asked (λ window. window.place.x)
+across = asked (λ window. window.rectangle.x)
 
 abbrev pub down : Tree → ℕ → ℕ
-down = asked (λ window. window.place.y)
+down = asked (λ window. window.rectangle.y)
 
 -- the places of the windows on the way to a window, added up
 unfoldable pub corner : ℕ → Tree → Corner

@@ -18,8 +18,8 @@ way_to number own = reverse (way_up (Some number) (reverse own.windows))
 -- whether a mapped window has the point, which is told from its parent's corner: a window has its left and top edges, and not its right and bottom
 abbrev pub has_point : ℕ → ℕ → Window → Bool
 has_point x y window =
-    window.mapped && (nat_le window.place.x x && (nat_lt x (window.place.x + window.place.width)
-    && (nat_le window.place.y y && nat_lt y (window.place.y + window.place.height))))
+    window.mapped && (nat_le window.rectangle.x x && (nat_lt x (window.rectangle.x + window.rectangle.width)
+    && (nat_le window.rectangle.y y && nat_lt y (window.rectangle.y + window.rectangle.height))))
 
 -- the first way, unless it is empty
 abbrev pub or_other : List ℕ → List ℕ → List ℕ
@@ -31,13 +31,13 @@ unfoldable pub at_point : ℕ → ℕ → ℕ → List Window → List ℕ
 at_point number x y [] = []
 at_point number x y (window ∷ newer) =
     if is_child_of number window && has_point x y window
-    then or_other (at_point number x y newer) (window.number ∷ at_point window.number (x - window.place.x) (y - window.place.y) newer)
+    then or_other (at_point number x y newer) (window.number ∷ at_point window.number (x - window.rectangle.x) (y - window.rectangle.y) newer)
     else at_point number x y newer
 
 -- from the main window, where it has the point
 abbrev pub from_main : ℕ → ℕ → List Window → Option Window → List ℕ
 from_main x y windows None = []
-from_main x y windows (Some main) = if has_point x y main then main.number ∷ at_point main.number (x - main.place.x) (y - main.place.y) windows else []
+from_main x y windows (Some main) = if has_point x y main then main.number ∷ at_point main.number (x - main.rectangle.x) (y - main.rectangle.y) windows else []
 
 -- the way to the deepest mapped window at a point
 abbrev pub way_at : ℕ → ℕ → Tree → List ℕ

@@ -23,7 +23,7 @@ new_window number path kind parent = record {
   kind = kind;
   parent = parent;
   tags = default_tags path kind;
-  place = record { x = 0; y = 0; width = 1; height = 1 };
+  rectangle = record { x = 0; y = 0; width = 1; height = 1 };
   mapped = false;
   dying = false;
 }

@@ -24,7 +24,7 @@ pub fn change_window(window: &mut Window, change: WindowChange)
         WindowChange::Dying => window.dying = true,
         WindowChange::Tags(tags) => window.tags = tags,
         WindowChange::Place(place, mapped) => {
-            window.place = place;
+            window.rectangle = place;
             window.mapped = mapped;
         }
     }

@@ -21,7 +21,7 @@ pub struct Window {
     /// Its binding tags, in the order in which they are tried (bindtags(n)).
     pub tags: TextList,
     /// Where it was laid out, in pixels; 1 by 1 at 0 0 at first.
-    pub place: Rect,
+    pub rectangle: Rect,
     /// Whether it is mapped.
     pub mapped: bool,
     /// Whether it is being destroyed.
@@ -44,7 +44,7 @@ pub fn new_window(
         kind,
         parent,
         tags: default_tags(alloc, path, kind)?,
-        place: Rect {
+        rectangle: Rect {
             x: 0,
             y: 0,
             width: 1,
@@ -59,22 +59,22 @@ pub fn new_window(
 pub fn has_point(window: &Window, x: u32, y: u32) -> bool
     ensures { result ≡ has_point x y window.now }
 {
-    let place = window.place;
+    let rectangle = window.rectangle;
     window.mapped
-        && place.x <= x
-        && u64::from(x) < u64::from(place.x) + u64::from(place.width)
-        && place.y <= y
-        && u64::from(y) < u64::from(place.y) + u64::from(place.height)
+        && rectangle.x <= x
+        && u64::from(x) < u64::from(rectangle.x) + u64::from(rectangle.width)
+        && rectangle.y <= y
+        && u64::from(y) < u64::from(rectangle.y) + u64::from(rectangle.height)
 }
 
 /// How far across and down a window lies in its parent, in pixels.
 pub fn offset(window: &Window) -> (u64, u64)
-    ensures across { result.0 ≡ window.now.place.x }
-    ensures down { result.1 ≡ window.now.place.y }
+    ensures across { result.0 ≡ window.now.rectangle.x }
+    ensures down { result.1 ≡ window.now.rectangle.y }
     ensures small { (result.0 < 2 ^ 32) × (result.1 < 2 ^ 32) }
 {
-    let x = window.place.x;
-    let y = window.place.y;
+    let x = window.rectangle.x;
+    let y = window.rectangle.y;
     (u64::from(x), u64::from(y))
 }
 

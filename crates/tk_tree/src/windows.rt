@@ -170,10 +170,10 @@ impl Windows {
     pub fn place(&self, win: Win) -> (Rect, bool)
         requires { IsSome (window_at win.number (own_of win.owner self.now)) }
         ensures { IfSome (window_at win.number (own_of win.owner self.now))
-            (λ window. result ≡ (window.place, window.mapped)) }
+            (λ window. result ≡ (window.rectangle, window.mapped)) }
     {
         let window = self.there(win);
-        (window.place, window.mapped)
+        (window.rectangle, window.mapped)
     }
 
     /// The binding tags of a window, in the order in which they are tried (bindtags(n)). It takes no memory.
@@ -298,8 +298,8 @@ impl Windows {
                     &mut way,
                     owner,
                     main.number,
-                    x - main.place.x,
-                    y - main.place.y,
+                    x - main.rectangle.x,
+                    y - main.rectangle.y,
                 )?;
             }
         }
@@ -321,8 +321,8 @@ impl Windows {
         while let Some(child) = self.child_at(owner, number, x, y) {
             way.push(child.number)?;
             number = child.number;
-            x -= child.place.x;
-            y -= child.place.y;
+            x -= child.rectangle.x;
+            y -= child.rectangle.y;
         }
         Ok(())
     }
@@ -330,9 +330,9 @@ impl Windows {
     /// The child of a window that has a point, told from the window's corner: of several the newest.
     fn child_at(&self, owner: usize, number: u64, x: u32, y: u32) -> Option<&Window>
         ensures on { at_point number x y (own_of owner self.now).windows
-            ≡ option_map_or (λ child. child.number ∷ at_point child.number (x - child.place.x) (y - child.place.y) (own_of owner self.now).windows)
+            ≡ option_map_or (λ child. child.number ∷ at_point child.number (x - child.rectangle.x) (y - child.rectangle.y) (own_of owner self.now).windows)
             (option_copied result) [] }
-        ensures inside { IfSome result (λ child. (child.now.place.x ≤ x) × (child.now.place.y ≤ y)) }
+        ensures inside { IfSome result (λ child. (child.now.rectangle.x ≤ x) × (child.now.rectangle.y ≤ y)) }
     {
         let _ = &self.slab;
         let mut rest = self.children_of(owner, number);

@@ -7,7 +7,7 @@ use Rattle.indexmap.specs.IndexSet.{insert_key, remove_key}
 use Rattle.std.proofs.lemmas.Bool.Decides.{nat_tests}
 use Rattle.std.proofs.lemmas.List.{at_drop_more, take-append-le, take-append-drop, length-take}
 use Rattle.std.proofs.Math.Seq.{take-append_seam}
-use Rattle.tk_virtual.specs.Virtual.{Outcome, ◌>>=◌, added, all_added, is_same, with_pair, without_pair}
+use Rattle.tk_virtual.specs.Virtual.{OrFault, ◌>>=◌, added, all_added, is_same, with_pair, without_pair}
 use Rattle.tk_virtual.specs.declared.fault.VirtualFault.TheVariants.{Full}
 use Rattle.tk_virtual.specs.declared.pair.Pair.{Pair}
 use Rattle.tk_virtual.proofs.SameLemmas.{same_itself}
@@ -70,9 +70,9 @@ added_last pair copied pairs new is copy absent =
 pub inserted : (pair : Pair) (pairs : List Pair) → list_any (is_same pair) pairs ≡ false → length pairs < 4096 → with_pair pair pairs ≡ Ok (pairs ++ pair ∷ [])
 inserted pair pairs absent few =
     let room : nat_le 4096 (length pairs) ≡ false = grind (arith, nat_tests) in
-    let full : Outcome (List Pair) = Err Full in
-    let more : Outcome (List Pair) = Ok (pairs ++ pair ∷ []) in
-    let there : Outcome (List Pair) = Ok pairs in
+    let full : OrFault (List Pair) = Err Full in
+    let more : OrFault (List Pair) = Ok (pairs ++ pair ∷ []) in
+    let there : OrFault (List Pair) = Ok pairs in
     ap (λ (test : Bool). cond test there (cond (nat_le 4096 (length pairs)) full more)) absent
     ∙ ap (λ (test : Bool). cond test full more) room
 

@@ -15,12 +15,12 @@ use Rattle.tk_virtual.specs.declared.fault.VirtualFault.{VirtualFault}
 use Rattle.tk_virtual.specs.declared.fault.VirtualFault.TheVariants.{BadName, BadSequence, BadKeysym, VirtualInVirtual, Full, NoMemory}
 use Rattle.tk_virtual.specs.declared.pair.Pair.{Pair}
 
-abbrev pub Outcome : Type 0 → Type 0
-Outcome T = Result T VirtualFault
+abbrev pub OrFault : Type 0 → Type 0
+OrFault T = Result T VirtualFault
 
 -- the rest, unless what comes before it was refused
 infixl 10 ◌>>=◌
-abbrev pub ◌>>=◌ : {T U : Type 0} → Outcome T → (T → Outcome U) → Outcome U
+abbrev pub ◌>>=◌ : {T U : Type 0} → OrFault T → (T → OrFault U) → OrFault U
 Ok value >>= rest = rest value
 Err fault >>= rest = Err fault
 
@@ -32,12 +32,12 @@ fault_of (sequence_faults.BadKeysym word) = BadKeysym word
 fault_of sequence_faults.NoMemory = NoMemory
 
 -- a name in its brackets
-abbrev pub name_or_fault : List ℕ → Option (List ℕ) → Outcome (List ℕ)
+abbrev pub name_or_fault : List ℕ → Option (List ℕ) → OrFault (List ℕ)
 name_or_fault word (Some name) = Ok name
 name_or_fault word None = Err (BadName word)
 
 -- a sequence that is no virtual event
-abbrev pub not_virtual : Result Sequence SequenceFault → Outcome Sequence
+abbrev pub not_virtual : Result Sequence SequenceFault → OrFault Sequence
 not_virtual (Ok (sequences.Virtual name)) = Err VirtualInVirtual
 not_virtual (Ok (sequences.Physical patterns)) = Ok (sequences.Physical patterns)
 not_virtual (Err fault) = Err (fault_of fault)
@@ -46,16 +46,16 @@ not_virtual (Err fault) = Err (fault_of fault)
 abbrev pub pair_of : List ℕ → Sequence → Pair
 pair_of name sequence = record { name = name; sequence = sequence; written = canonical sequence }
 
-abbrev pub with_sequence : List ℕ → Outcome Sequence → Outcome Pair
+abbrev pub with_sequence : List ℕ → OrFault Sequence → OrFault Pair
 with_sequence name (Ok sequence) = Ok (pair_of name sequence)
 with_sequence name (Err fault) = Err fault
 
-abbrev pub pair_with : Outcome (List ℕ) → List ℕ → Outcome Pair
+abbrev pub pair_with : OrFault (List ℕ) → List ℕ → OrFault Pair
 pair_with (Ok name) text = with_sequence name (not_virtual (parsed text))
 pair_with (Err fault) text = Err fault
 
 -- the pair that a name and a sequence spell: first the name is tested, then the sequence
-unfoldable pub pair_meant : List ℕ → List ℕ → Outcome Pair
+unfoldable pub pair_meant : List ℕ → List ℕ → OrFault Pair
 pair_meant word text = pair_with (name_or_fault word (name_in word)) text
 
 -- ---- the pairs of one application, in the order in which they were added
@@ -72,22 +72,22 @@ abbrev pub most_pairs : ℕ
 most_pairs = 4096
 
 -- one more at the end, unless it is there or as many as there can be are
-abbrev pub with_pair : Pair → List Pair → Outcome (List Pair)
+abbrev pub with_pair : Pair → List Pair → OrFault (List Pair)
 with_pair pair pairs =
     if list_any (is_same pair) pairs then Ok pairs
     else (if nat_le most_pairs (length pairs) then Err Full
     else Ok (pairs ++ pair ∷ []))
 
-abbrev pub with_meant : Outcome Pair → List Pair → Outcome (List Pair)
+abbrev pub with_meant : OrFault Pair → List Pair → OrFault (List Pair)
 with_meant (Ok pair) pairs = with_pair pair pairs
 with_meant (Err fault) pairs = Err fault
 
 -- a pair is added
-unfoldable pub added : List ℕ → List ℕ → List Pair → Outcome (List Pair)
+unfoldable pub added : List ℕ → List ℕ → List Pair → OrFault (List Pair)
 added word text pairs = with_meant (pair_meant word text) pairs
 
 -- pairs of one name are added, one after another; none where one is refused
-abbrev pub all_added : List ℕ → List (List ℕ) → List Pair → Outcome (List Pair)
+abbrev pub all_added : List ℕ → List (List ℕ) → List Pair → OrFault (List Pair)
 all_added word [] pairs = Ok pairs
 all_added word (text ∷ texts) pairs = added word text pairs >>= all_added word texts
 
@@ -99,7 +99,7 @@ abbrev pub without_pair : Pair → List Pair → List Pair
 without_pair wanted pairs = filter (λ pair. not (is_same wanted pair)) pairs
 
 -- the pairs that a name and several sequences spell, each tested in turn
-abbrev pub pairs_meant : List ℕ → List (List ℕ) → Outcome (List Pair)
+abbrev pub pairs_meant : List ℕ → List (List ℕ) → OrFault (List Pair)
 pairs_meant word [] = Ok []
 pairs_meant word (text ∷ texts) = do
   pair ← pair_meant word text
@@ -111,7 +111,7 @@ without_pairs [] pairs = pairs
 without_pairs (wanted ∷ others) pairs = without_pairs others (without_pair wanted pairs)
 
 -- pairs of a name are taken out, all of them or those with these sequences; none where a word is refused
-unfoldable pub deleted : List ℕ → List (List ℕ) → List Pair → Outcome (List Pair)
+unfoldable pub deleted : List ℕ → List (List ℕ) → List Pair → OrFault (List Pair)
 deleted word [] pairs = do
   name ← name_or_fault word (name_in word)
   Ok (without_name name pairs)

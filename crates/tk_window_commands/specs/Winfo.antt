@@ -73,7 +73,7 @@ unfoldable pub told : Question → Windowing → Store → Window → Answer
 told Children own store window = children_told window.number own.tree
 told Class own store window = Ok (class_told window)
 told Exists own store window = truth true
-told Height own store window = answers (decimal window.place.height)
+told Height own store window = answers (decimal window.rectangle.height)
 told IsMapped own store window = truth window.mapped
 told Name own store window = answers (name_told own window)
 told Parent own store window = answers (option_map_or (path_at own.tree) window.parent [])
@@ -82,9 +82,9 @@ told RequestedWidth own store window = answers (decimal (asked_for own store win
 told RootX own store window = answers (decimal (corner window.number own.tree).x)
 told RootY own store window = answers (decimal (corner window.number own.tree).y)
 told Toplevel own store window = answers (codes ".")
-told Width own store window = answers (decimal window.place.width)
-told X own store window = answers (decimal window.place.x)
-told Y own store window = answers (decimal window.place.y)
+told Width own store window = answers (decimal window.rectangle.width)
+told X own store window = answers (decimal window.rectangle.x)
+told Y own store window = answers (decimal window.rectangle.y)
 
 -- winfo exists path: any text may be asked for; winfo SUB-COMMAND path: the window has to be there
 abbrev pub told_of_none : Question → List ℕ → Answer

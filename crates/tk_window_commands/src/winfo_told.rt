@@ -39,7 +39,7 @@ pub fn told(
         Question::Children => children_told(alloc, &screen.windows, win),
         Question::Class => Ok(short_text(alloc, class_of(window))?),
         Question::Exists => truth_answer(alloc, true),
-        Question::Height => decimal_answer(alloc, window.place.height as usize),
+        Question::Height => decimal_answer(alloc, window.rectangle.height as usize),
         Question::IsMapped => truth_answer(alloc, window.mapped),
         Question::Name => name_told(alloc, screen, slot, window),
         Question::Parent => text_answer(alloc, parent_path(&screen.windows, slot, window)),
@@ -52,9 +52,9 @@ pub fn told(
         Question::RootX => decimal_answer(alloc, screen.windows.corner(win).x as usize),
         Question::RootY => decimal_answer(alloc, screen.windows.corner(win).y as usize),
         Question::Toplevel => text_answer(alloc, "."),
-        Question::Width => decimal_answer(alloc, window.place.width as usize),
-        Question::X => decimal_answer(alloc, window.place.x as usize),
-        Question::Y => decimal_answer(alloc, window.place.y as usize),
+        Question::Width => decimal_answer(alloc, window.rectangle.width as usize),
+        Question::X => decimal_answer(alloc, window.rectangle.x as usize),
+        Question::Y => decimal_answer(alloc, window.rectangle.y as usize),
     }
 }
 

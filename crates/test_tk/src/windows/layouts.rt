@@ -52,7 +52,7 @@ fn new_shape(number: u64, (width, height): (u32, u32), border: u32, propagates: 
         height,
         border,
         propagates,
-        place: Rect {
+        rectangle: Rect {
             x: 0,
             y: 0,
             width: 1,
@@ -141,7 +141,7 @@ impl Layouts {
         for old in &mut self.shapes {
             if old.number == shape.number {
                 *old = Shape {
-                    place: old.place,
+                    rectangle: old.rectangle,
                     mapped: old.mapped,
                     ..shape
                 };
@@ -197,7 +197,7 @@ impl Layouts {
         for shape in &mut self.shapes {
             match change {
                 PlaceChange::Unmap(number) if number == shape.number => shape.mapped = false,
-                PlaceChange::Configure(number, place) if number == shape.number => shape.place =
+                PlaceChange::Configure(number, place) if number == shape.number => shape.rectangle =
                     place,
                 PlaceChange::Map(number) if number == shape.number => shape.mapped = true,
                 _ => {}

@@ -26,4 +26,4 @@ returns-in_ok-now-in-Tests-clause-ok g c =
     let second = standing_of c.in_ok-tested-in-Tests.tested c.test.new.frames.items c.test.new.scopes c.args.context.now in
     let third = standing_of c.in_ok-now-in-Tests.now c.onward-in-Tests.new.frames.items c.onward-in-Tests.new.scopes c.onward-in-Tests.new.context in
     subst (λ now. TakesSteps outside 1 (standing_of now c.args.frames.now.items c.args.scopes.now c.args.context.now) shows third shows) (sym t.is)
-    (test_leads_on outside t.room t.turning (waits_of c.args.frames.now.items) shows c.args.scopes.now c.args.context.now second third c.in_ok-tested-in-Tests.ensures c.in_ok-now-in-Tests.ensures)
+    (test_leads_on outside t.room t.looping (waits_of c.args.frames.now.items) shows c.args.scopes.now c.args.context.now second third c.in_ok-tested-in-Tests.ensures c.in_ok-now-in-Tests.ensures)

@@ -1,4 +1,4 @@
-use Rattle.tk_app.proofs.Equations.{destroys_all}
+use Rattle.tk_app.proofs.ByEquations.{destroys_all}
 use Rattle.tk_app.proofs.Gone.{destroys_all as all_gone}
 use Rattle.tk_app.proofs.laws.destroys.Goals as goal
 

@@ -1,4 +1,4 @@
-use Rattle.tk_app.proofs.Equations.{dispatches}
+use Rattle.tk_app.proofs.ByEquations.{dispatches}
 use Rattle.tk_app.proofs.laws.dispatches.Goals as goal
 
 pub returns : goal.returns

@@ -1,4 +1,4 @@
-use Rattle.tk_app.proofs.Equations.{settles_all}
+use Rattle.tk_app.proofs.ByEquations.{settles_all}
 use Rattle.tk_app.proofs.Only.{only_settle}
 use Rattle.tk_app.proofs.laws.settles.Goals as goal
 

@@ -1,4 +1,4 @@
-use Rattle.tk_app.proofs.Equations.{updates_idle}
+use Rattle.tk_app.proofs.ByEquations.{updates_idle}
 use Rattle.tk_app.proofs.laws.updates_idle_tasks.Goals as goal
 
 pub returns : goal.returns

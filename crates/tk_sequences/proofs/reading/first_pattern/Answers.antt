@@ -2,7 +2,7 @@ use Rattle.std.proofs.Common.{◌≡◌, ◌≢◌, ◌<◌, ◌++◌, ◌∷◌
 use Rattle.std.proofs.lemmas.Str.{IsCharBoundary-after_ascii}
 use Rattle.std.proofs.lemmas.Str.Pattern.{split_parts}
 use Rattle.std.specs.Borrow.{Bor}
-use Rattle.tk_sequences.specs.Reading.{Outcome, plain_pattern, pattern_of}
+use Rattle.tk_sequences.specs.Reading.{OrFault, plain_pattern, pattern_of}
 use Rattle.tk_sequences.specs.declared.fault.SequenceFault.TheVariants.{BadSequence}
 use Rattle.tk_sequences.proofs.PieceLemmas.{behind_utf8, plain_boundary, bracket_boundary, bracket_first, bracket_refused, bracket_open}
 use Rattle.tk_sequences.proofs.reading.first_pattern.Goals as goal

@@ -1,4 +1,4 @@
-use Rattle.std.proofs.Common.{◌≡◌, sym, ap, ◌∙◌, subst}
+use Rattle.std.proofs.Common.{◌≡◌, ◌∙◌, subst}
 use Rattle.tk_virtual.specs.Classes.{listed_in}
 use Rattle.tk_virtual.specs.Virtual.{without_name}
 use Rattle.tk_virtual.proofs.ClassLemmas.{one_class_more}

@@ -10,7 +10,7 @@ pub loop-child-preserved : goal.loop-child-preserved
 loop-child-preserved c =
     let windows = (own_of c.args.owner c.args.self.now).windows in
     let child = c.in-Some.child.now in
-    let below = at_point child.number (c.loop-child.x - child.place.x) (c.loop-child.y - child.place.y) windows in
+    let below = at_point child.number (c.loop-child.x - child.rectangle.x) (c.loop-child.y - child.rectangle.y) windows in
     ap (λ way. way ++ below) c.in_ok-push.ensures.items ∙ append_assoc c.loop-child.way.items (child.number ∷ []) below ∙ ap (λ on. c.loop-child.way.items ++ on) (sym c.in-Some.ensures.on) ∙ c.loop-child.invariant
 
 pub returns : goal.returns

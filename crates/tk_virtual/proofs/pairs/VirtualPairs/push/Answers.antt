@@ -1,4 +1,4 @@
-use Rattle.std.proofs.Common.{◌≡◌, ◌∷◌, [], ◌++◌, ◌-◌, false, List, length, take, filter, sym, ap, ◌∙◌}
+use Rattle.std.proofs.Common.{◌∷◌, [], ◌++◌, ◌-◌, List, length, take, filter, sym, ap, ◌∙◌}
 use Rattle.std.specs.List.{list_any}
 use Rattle.tk_virtual.specs.Classes.{is_of_class, listed_in, sequence_class}
 use Rattle.tk_virtual.specs.Virtual.{is_same}

@@ -1,4 +1,4 @@
-use Rattle.std.proofs.Common.{◌≡◌, ◌-◌, length, take, append-nil, filter, sym, ap, ◌∙◌, subst}
+use Rattle.std.proofs.Common.{◌≡◌, ◌-◌, length, take, append-nil, filter, ap, ◌∙◌, subst}
 use Rattle.tk_virtual.specs.Classes.{is_of_class, listed_in}
 use Rattle.tk_virtual.proofs.ClassLemmas.{filed_last}
 use Rattle.tk_virtual.proofs.pairs.VirtualPairs.take_last.Goals as goal

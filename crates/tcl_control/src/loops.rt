@@ -1,5 +1,5 @@
 ghost use Rattle.std.specs.Prelude.{◌≡◌, ◌<◌, length, map, IfOk};
-ghost use Rattle.tcl_control.specs.Turns.{tested_as, items_tested};
+ghost use Rattle.tcl_control.specs.Loops.{tested_as, items_tested};
 
 use crate::assign::assign_groups;
 use crate::expression::Expression;
@@ -10,7 +10,7 @@ use tcl_table::Source;
 use tcl_text::Text;
 use tcl_vars::Scopes;
 
-/// What a loop tests before each turn.
+/// What a loop tests before each iteration.
 #[derive(Drop)]
 pub enum Test {
     /// Whether a condition holds.
@@ -21,7 +21,7 @@ pub enum Test {
 
 /// A loop: what it tests, its body, and what `for` runs after the body (while(n), for(n), foreach(n)).
 #[derive(Drop)]
-pub struct Turning {
+pub struct Loop {
     pub test: Test,
     pub body: Source,
     pub next: Option<Source>,
@@ -29,47 +29,47 @@ pub struct Turning {
 
 /// A loop that is handed on without being moved. Contracts see the loop.
 pub struct Looping {
-    turning: Box<Turning>,
+    looping: Box<Loop>,
 }
 
 impl Model for Looping {
-    ghost use Rattle.tcl_control.specs.declared.turns.Turning.{Turning};
+    ghost use Rattle.tcl_control.specs.declared.loops.Loop.{Loop};
 
-    ghost Value = { Turning };
+    ghost Value = { Loop };
 
-    ghost view = { λ l. l.turning.value };
+    ghost view = { λ l. l.looping.value };
 }
 
 impl Looping {
     /// This loop.
-    pub fn new(alloc: Global, turning: Turning) -> Result<Looping, AllocError>
-        ensures { IfOk result (λ looping. looping ≡ turning) }
+    pub fn new(alloc: Global, looping: Loop) -> Result<Looping, AllocError>
+        ensures { IfOk result (λ made. made ≡ looping) }
     {
         Ok(Looping {
-            turning: Box::new(alloc, turning)?,
+            looping: Box::new(alloc, looping)?,
         })
     }
 
     /// The loop. It takes no memory.
-    pub fn get(&self) -> &Turning
+    pub fn get(&self) -> &Loop
         ensures { result.now ≡ self.now }
     {
-        &self.turning
+        &self.looping
     }
 
     /// The loop, taken out. It takes no memory.
-    pub fn into_inner(self) -> Turning
+    pub fn into_inner(self) -> Loop
         ensures { result ≡ self }
     {
-        let Looping { turning } = self;
-        Box::into_inner(turning)
+        let Looping { looping } = self;
+        Box::into_inner(looping)
     }
 }
 
 /// What a test for items came to.
 #[derive(Drop)]
 pub enum Verdict {
-    /// There is another turn, behind which these are left.
+    /// There is another iteration, behind which these are left.
     More(Groups),
     /// There is none.
     NoMore,
@@ -77,7 +77,7 @@ pub enum Verdict {
     Fails(Text),
 }
 
-/// The test of `foreach` before a turn: where items are left, the variables in the frame at a level are given theirs, the empty text where
+/// The test of `foreach` before an iteration: where items are left, the variables in the frame at a level are given theirs, the empty text where
 /// a list has none left (foreach(n)). Where one can't be set, it is that error (17 to 19), and those before it stay set.
 pub fn items_tested(
     alloc: Global,
@@ -100,6 +100,6 @@ pub fn items_tested(
 /// By hand: a proof sees one call where it is dropped, and not its parts.
 impl Drop for Looping {
     fn drop(self) {
-        let Looping { turning: _ } = self;
+        let Looping { looping: _ } = self;
     }
 }

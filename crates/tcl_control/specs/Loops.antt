@@ -5,10 +5,10 @@ use Rattle.tcl_commands.specs.Groups.{advanced, has_more}
 use Rattle.tcl_commands.specs.declared.groups.Group.{Group}
 use Rattle.tcl_control.specs.Assign.{Assigned, groups_assigned}
 use Rattle.tcl_vars.specs.Store.{Store}
-use Rattle.tcl_control.specs.declared.turns.Verdict.{Verdict}
-use Rattle.tcl_control.specs.declared.turns.Verdict.TheVariants as verdict
+use Rattle.tcl_control.specs.declared.loops.Verdict.{Verdict}
+use Rattle.tcl_control.specs.declared.loops.Verdict.TheVariants as verdict
 
--- what a test comes to, and the variables then: another turn, and the items behind it; none; or an error's text
+-- what a test comes to, and the variables then: another iteration, and the items behind it; none; or an error's text
 pub data Tested : Type 0 where
   More : Store → List Group → Tested
   NoMore : Store → Tested

@@ -3,7 +3,8 @@
 ghost use Rattle.std.specs.Prelude.{◌≡◌, ◌≢◌, ◌≤◌, ◌∷◌, ◌++◌, [], ℕ, List, map, IfOk, IfErr, OnOk};
 ghost use Rattle.tk_host.specs.declared.phase.Phase.{Phase};
 ghost use Rattle.tk_session.specs.Session.{IsSession};
-ghost use Rattle.tkhost.specs.Play.{MakesServices, program_sections};
+ghost use Rattle.tkhost.specs.Play.{MakesServices};
+ghost use Rattle.tkhost.specs.Sections.{program_sections};
 ghost use Rattle.tk_host.specs.Held.{Call, Start, held_after};
 ghost use Rattle.tk_host.specs.Refusals.{RefusesLine, line_faults};
 ghost use Rattle.tk_route.specs.Refusals.{IsFirst, NoneApplies};

@@ -4,7 +4,7 @@ use Rattle.std.specs.Option.{unwrap_or}
 use Rattle.std.specs.Str.{bytes_eq}
 use Rattle.tk_session.specs.declared.session.AppBlock.{AppBlock}
 use Rattle.tk_session.specs.declared.session.EventLine.{EventLine}
-use Rattle.tkhost.specs.Play.{program_sections}
+use Rattle.tkhost.specs.Sections.{program_sections}
 use Rattle.panels.specs.Beside.{beside}
 use Rattle.panels.specs.Verdict.{sections_in}
 use Rattle.panels.specs.declared.bench.Bench.{Bench}

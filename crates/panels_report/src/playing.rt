@@ -3,7 +3,8 @@
 ghost use Rattle.std.specs.Prelude.{◌≡◌, ◌≤◌, map, IfOk, IfErr};
 ghost use Rattle.tk_alias.specs.Services.{answer_of};
 ghost use Rattle.tk_alias.specs.declared.service.Service.{Service as ServiceOf};
-ghost use Rattle.tkhost.specs.Play.{program_sections, services_in};
+ghost use Rattle.tkhost.specs.Play.{services_in};
+ghost use Rattle.tkhost.specs.Sections.{program_sections};
 ghost use Rattle.panels.specs.Played.{plan_of};
 ghost use Rattle.panels.specs.Refusals.{IsRefused};
 ghost use Rattle.panels_report.specs.Faults.{IsMemory, IsTold, entry_line, panel_line, words_of};

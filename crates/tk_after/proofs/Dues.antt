@@ -7,7 +7,8 @@ use Rattle.std.proofs.lemmas.Bool.Decides.{nat_tests}
 use Rattle.std.proofs.lemmas.Option.{IfSome_then, option_and_then_some, none-some, same_Some}
 use Rattle.std.proofs.lemmas.Bool.{leb-true, leb-false, le-leb, eqb-true, false≢true}
 use Rattle.tk_after.specs.declared.waiting.WaitingScript.{WaitingScript}
-use Rattle.tk_after.specs.Timers.{IsNumbered, least, due_moments, is_due_at, first_due, IsFirstDue, NothingDue}
+use Rattle.tk_after.specs.Timers.{least, due_moments, is_due_at, first_due, IsFirstDue, NothingDue}
+use Rattle.tk_after.specs.Shared.{IsNumbered}
 use Rattle.tk_after.proofs.Numbers.{id_at_least}
 
 -- no number is below the least

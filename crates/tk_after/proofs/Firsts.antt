@@ -12,7 +12,8 @@ use Rattle.tk_base.specs.declared.counter.Counter.{Counter}
 use Rattle.tk_after.specs.declared.waiting.WaitingScript.{WaitingScript}
 use Rattle.tk_after.specs.declared.keys.DueKey.{DueKey}
 use Rattle.tk_after.specs.Keys.{Stored, due_cmp, number_of, timer_item, idle_item, bag_of, entries_in, IsTimer, AreKeyed}
-use Rattle.tk_after.specs.Timers.{due_moments, IsNextDue}
+use Rattle.tk_after.specs.Timers.{due_moments}
+use Rattle.tk_after.specs.Shared.{IsNextDue}
 use Rattle.tk_after.proofs.Bags.{has_timers, idle_due}
 use Rattle.tk_after.proofs.KeyOrders.{less_due}
 use Rattle.tk_after.proofs.Lists.{Has, bag_has, listed_has}

@@ -9,7 +9,8 @@ use Rattle.tk_base.specs.declared.counter.Counter.{Counter}
 use Rattle.tk_after.specs.declared.waiting.WaitingScript.{WaitingScript}
 use Rattle.tk_after.specs.declared.keys.Name.{Name}
 use Rattle.tk_after.specs.Keys.{Stored, number_of, entries_in, Mark, mark_number, mark_of, marks_of, held_by, AreKept}
-use Rattle.tk_after.specs.Timers.{Timers, own_of, with_entry, without as own_without, entry_with, ids, idle_ids, due_moments, is_full, IsNumbered, IsKept}
+use Rattle.tk_after.specs.Timers.{Timers, with_entry, without as own_without, entry_with, ids, idle_ids, due_moments, is_full}
+use Rattle.tk_after.specs.Shared.{own_of, IsNumbered, IsKept}
 use Rattle.tk_after.proofs.Numbers.{IsNumbered-lower, IsNumbered-push, room_from_is_full}
 use Rattle.tk_base.specs.Counters.{next_of, count_of, Counts}
 

@@ -3,7 +3,8 @@ use Rattle.std.proofs.Common.{◌≡◌, ℕ, ◌+◌, ◌<◌, ◌≤◌, zero,
 use Rattle.std.specs.Prelude.{◌||◌}
 use Rattle.std.proofs.lemmas.Bool.{leb-false}
 use Rattle.tk_after.specs.declared.waiting.WaitingScript.{WaitingScript}
-use Rattle.tk_after.specs.Timers.{Timers, IsNumbered, is_full}
+use Rattle.tk_after.specs.Timers.{Timers, is_full}
+use Rattle.tk_after.specs.Shared.{IsNumbered}
 
 -- one more with the next number
 pub IsNumbered-push : (low : ℕ) (entries : List WaitingScript) (next_number : ℕ) (entry : WaitingScript) → IsNumbered low entries next_number → entry.id ≡ next_number → IsNumbered low (entries ++ entry ∷ []) (next_number + 1)

@@ -10,7 +10,8 @@ use Rattle.tk_base.specs.declared.counter.Counter.{Counter}
 use Rattle.tk_after.specs.declared.waiting.WaitingScript.{WaitingScript}
 use Rattle.tk_after.specs.declared.keys.Name.{Name}
 use Rattle.tk_after.specs.Keys.{Stored, number_of, entries_in, IsMarked, Mark, mark_number, mark_of, marks_of, lies_due_at, held_by, AreKept}
-use Rattle.tk_after.specs.Timers.{Timers, own_of, entry_with, without as own_without, ids, idle_ids, due_moments, is_due_at, least, first_due, IsKept, IsFirstDue}
+use Rattle.tk_after.specs.Timers.{Timers, entry_with, without as own_without, ids, idle_ids, due_moments, is_due_at, least, first_due, IsFirstDue}
+use Rattle.tk_after.specs.Shared.{own_of, IsKept}
 use Rattle.tk_after.proofs.Dues.{first_due-at, first_due-is}
 use Rattle.tk_after.proofs.Kept.{kept_rising, find_id_marks, due_marks, moments_marks, ids_marks, idle_marks, marked_by, unlisted_by, own_with}
 use Rattle.tk_after.proofs.Lists.{Has, found_has, has_part, numbered_has, without_absent}

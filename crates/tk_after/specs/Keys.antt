@@ -12,7 +12,8 @@ use Rattle.tk_base.specs.declared.counter.Counter.{Counter}
 use Rattle.tk_after.specs.declared.waiting.WaitingScript.{WaitingScript}
 use Rattle.tk_after.specs.declared.keys.DueKey.{DueKey}
 use Rattle.tk_after.specs.declared.keys.Name.{Name}
-use Rattle.tk_after.specs.Timers.{Held, own_of, entry_with, IsKept}
+use Rattle.tk_after.specs.Timers.{entry_with}
+use Rattle.tk_after.specs.Shared.{Held, own_of, IsKept}
 use Rattle.tk_base.specs.Counters.{count_of}
 
 -- ---- keys

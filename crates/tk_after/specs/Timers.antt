@@ -1,34 +1,18 @@
--- Meaning. Timers and idle scripts: what one application has waiting, among those of all applications.
-use Rattle.std.specs.Prelude.{◌≡◌, ◌≢◌, ℕ, ◌+◌, ◌-◌, ◌^◌, ◌<◌, ◌≤◌, Bool, false, ◌||◌, ◌==◌, not, nat_le, nat_eq, if◌then◌else◌, List, [], ◌∷◌, ◌++◌, length, map, filter, find, min, All, Contains, Option, Some, None, is_none, option_and_then, IfSome}
+-- Meaning. Timers and idle scripts (after(n)): what one application has waiting.
+use Rattle.std.specs.Prelude.{◌≡◌, ℕ, ◌+◌, ◌-◌, ◌^◌, ◌<◌, ◌≤◌, Bool, false, ◌||◌, ◌==◌, not, nat_le, if◌then◌else◌, List, [], ◌∷◌, ◌++◌, length, map, filter, find, min, All, Contains, Option, Some, None, is_none, option_and_then, IfSome}
 use Rattle.std.specs.List.{filter_map}
-use Rattle.std.specs.Map.{lookup}
 use Rattle.std.specs.Option.{option_map_or}
-use Rattle.tk_base.specs.Bag.{Item, listed}
-use Rattle.tk_base.specs.declared.counter.Counter.{Counter}
 use Rattle.tk_after.specs.declared.waiting.WaitingScript.{WaitingScript}
 use Rattle.tcl_text.specs.Limits.{most_waiting}
-use Rattle.tk_base.specs.Counters.{next_of}
 
 -- what one application has waiting, in the order of its numbers, and the number that comes next
 pub record Timers : Type 0 where
   pub next_number : ℕ
   pub entries : List WaitingScript
 
--- all applications' parts: each one's counter, and the entries in any order
-pub record Held : Type 0 where
-  pub counters : List (ℕ × Counter)
-  pub bag : List (Item WaitingScript)
-
 -- nothing was ever waiting
 abbrev pub fresh : Timers
 fresh = record { next_number = 0; entries = [] }
-
--- what one application has, in the order of numbers
-abbrev pub entries_of : ℕ → Held → List WaitingScript
-entries_of owner held = listed (λ entry. entry.id) owner held.bag
-
-abbrev pub own_of : ℕ → Held → Timers
-own_of owner held = record { next_number = next_of owner held.counters; entries = entries_of owner held }
 
 -- ---- one application
 
@@ -97,26 +81,3 @@ pub record IsFirstDue (moment : ℕ) (entries : List WaitingScript) (id : ℕ) (
 -- no timer is due by the moment
 abbrev pub NothingDue : ℕ → List WaitingScript → Type 0
 NothingDue moment entries = All (λ entry. IfSome entry.due (λ due. moment < due)) entries
-
--- ---- all applications
-
--- some application has a timer due at this moment, and none has one due before it
-pub record IsNextDue (held : Held) (moment : ℕ) : Type 0 where
-  pub owner : ℕ
-  pub among : Contains (due_moments (entries_of owner held)) moment
-  pub least : (other : ℕ) → All (λ its_due. moment ≤ its_due) (due_moments (entries_of other held))
-
--- every application but one has what it had
-abbrev pub LeavesOthers : ℕ → Held → Held → Type 0
-LeavesOthers owner old new = (other : ℕ) → other ≢ owner → own_of other new ≡ own_of other old
-
--- ---- what is kept
-
--- numbers rise along the list, from low on, and all have been given
-abbrev pub IsNumbered : ℕ → List WaitingScript → ℕ → Type 0
-IsNumbered low [] next_number = low ≤ next_number
-IsNumbered low (entry ∷ entries) next_number = (low ≤ entry.id) × IsNumbered (entry.id + 1) entries next_number
-
-pub record IsKept (own : Timers) : Type 0 where
-  pub numbered : IsNumbered 0 own.entries own.next_number
-  pub few : length own.entries ≤ most_waiting

@@ -3,7 +3,8 @@ ghost use Rattle.std.specs.Prelude.{◌≡◌, ◌+◌, ◌<◌, ◌≤◌, IfOk
 ghost use Rattle.tcl_text.specs.Answers.{answers};
 ghost use Rattle.tcl_text.specs.Readings.{integer_of, list_form};
 ghost use Rattle.tcl_text.specs.StringCommands.{concat_words};
-ghost use Rattle.tk_after.specs.Timers.{own_of, entries_of, ids, LeavesOthers};
+ghost use Rattle.tk_after.specs.Timers.{ids};
+ghost use Rattle.tk_after.specs.Shared.{own_of, entries_of, LeavesOthers};
 ghost use Rattle.tk_after.specs.After.{after_words, add_words, add_script, cancel_words, info_words, kind_told, name_of, delay_of, delay_words};
 ghost use Rattle.tk_base.specs.Limits.{last_moment};
 

@@ -3,7 +3,8 @@ ghost use Rattle.std.specs.Prelude.{◌≡◌, ◌≢◌, ℕ, List, [], ◌∷�
 ghost use Rattle.std.specs.Option.{option_copied};
 ghost use Rattle.tk_base.specs.Bag.{AllBelow, IsRising, without};
 ghost use Rattle.tk_after.specs.Keys.{entries_in, bag_of, taken, number_of, IsMarked};
-ghost use Rattle.tk_after.specs.Timers.{Held, entry_with, due_moments, IsNextDue};
+ghost use Rattle.tk_after.specs.Timers.{entry_with, due_moments};
+ghost use Rattle.tk_after.specs.Shared.{Held, IsNextDue};
 
 use crate::keys::{DueKey, Name};
 use crate::waiting::WaitingScript;

@@ -3,7 +3,8 @@ ghost use Rattle.std.specs.Option.{option_copied, option_map_or};
 ghost use Rattle.std.specs.Str.{bytes_eq};
 ghost use Rattle.tk_base.specs.Bag.{AllBelow, IsRising};
 ghost use Rattle.tk_after.specs.Keys.{entries_in, marks_of, mark_of, mark_number, number_of};
-ghost use Rattle.tk_after.specs.Timers.{own_of, entries_of, is_full, with_entry, entry_with, without, ids, idle_ids, IsKept, least, IsLeastOf, due_moments, first_due, IsFirstDue, NothingDue, IsNextDue, LeavesOthers};
+ghost use Rattle.tk_after.specs.Timers.{is_full, with_entry, entry_with, without, ids, idle_ids, least, IsLeastOf, due_moments, first_due, IsFirstDue, NothingDue};
+ghost use Rattle.tk_after.specs.Shared.{own_of, entries_of, IsKept, IsNextDue, LeavesOthers};
 ghost use Rattle.tk_base.specs.Counters.{next_of, count_of, Counts};
 
 use crate::index::TimerIndex;
@@ -32,7 +33,7 @@ pub struct Timers {
 }
 
 impl Model for Timers {
-    ghost use Rattle.tk_after.specs.Timers.{Held};
+    ghost use Rattle.tk_after.specs.Shared.{Held};
     ghost use Rattle.tk_after.specs.Keys.{held_by, AreKept};
 
     ghost Value = { Held };

@@ -4,7 +4,7 @@ use Rattle.std.specs.Prelude.{nat_eq}
 use Rattle.std.proofs.lemmas.Bool.{eqb-true, eqb-false}
 use Rattle.tk_panel.specs.declared.tables.Tables.{Tables}
 use Rattle.tk_panel.specs.Fresh.{fresh, nothing}
-use Rattle.tk_panel.specs.Panel.{LeavesOthers, panel_of}
+use Rattle.tk_panel.specs.Shared.{LeavesOthers, panel_of}
 use Rattle.tk_panel.proofs.Others.{other_same, others_same}
 use Rattle.tk_base.specs.declared.budget.Budget.{Budget}
 use Rattle.tk_app.specs.Part.{added}

@@ -5,7 +5,8 @@ use Rattle.std.proofs.lemmas.Bool.{leb-true, leb-false, eqb-true, eqb-false}
 use Rattle.tk_app.specs.declared.turns.Turn.{Turn}
 use Rattle.tk_app.specs.Rounds.{turns_of}
 use Rattle.tk_app.specs.Passing.{brought}
-use Rattle.tk_app.specs.Stages.{IsPast, earlier, first_moment_due, settled_if, settled_if_due_at, stage_at, used_at}
+use Rattle.tk_app.specs.Stages.{earlier, first_moment_due, stage_at, used_at}
+use Rattle.tk_app.specs.Due.{IsPast, settled_if, settled_if_due_at}
 use Rattle.tk_app.specs.Together.{IsAmong, IsOwnOfOne, RisesFrom, Rises, before, own_moments, stage_moments, taken_at, turns_to}
 use Rattle.tk_app.proofs.Passing.{pass_none, pass_late, pass_step, brought_step}
 use Rattle.tk_app.proofs.Stages.{IsFrom, brought_at, brought_past, both_from, both_past, stage_lighter, stage_past, told_past, told_step}

@@ -13,7 +13,7 @@ use Rattle.tk_app.specs.declared.state.AppState.TheVariants.{Running}
 use Rattle.tk_app.specs.Names.{command_names}
 use Rattle.tk_app.specs.Part.{work_of}
 use Rattle.tk_app.specs.Seen.{names_of}
-use Rattle.tk_app.specs.Settle.{settling}
+use Rattle.tk_app.specs.SettleJob.{settling}
 use Rattle.tk_app.specs.Turns.{Program, beginning, work_by}
 
 module _ {M : Type 0} (budget : Budget) where

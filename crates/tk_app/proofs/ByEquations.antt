@@ -10,7 +10,7 @@ use Rattle.tk_app.specs.Items.{idle_tasks_meaning, item_meaning, settle_item}
 use Rattle.tk_app.specs.JobLaws.{CommandsAreCalled, Destroys, Dispatches, ScriptsAreRun, UpdateGoes, UpdatesIdleTasks}
 use Rattle.tk_app.specs.Jobs.{meaning, meaning_by}
 use Rattle.tk_app.specs.Outside.{run_in}
-use Rattle.tk_app.specs.Settle.{Settles, Updates, settle_meaning}
+use Rattle.tk_app.specs.SettleJob.{Settles, Updates, settle_meaning}
 use Rattle.tk_app.specs.Sound.{EndsSound, KeepsSound}
 use Rattle.tk_app.proofs.Commands.{command_called, scripts_run}
 use Rattle.tk_app.proofs.Equations.{destroy_goes, dispatch_goes, idle_tasks_go, settle_goes, update_goes}

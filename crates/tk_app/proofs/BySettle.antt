@@ -11,9 +11,11 @@ use Rattle.tk_app.specs.declared.state.AppState.TheVariants.{Running, Exhausted,
 use Rattle.tk_app.specs.Application.{Application}
 use Rattle.tk_app.specs.Commands.{scripts_in}
 use Rattle.tk_app.specs.Dispatch.{Continuation, global_meaning, with_panel_but_moment}
-use Rattle.tk_app.specs.Moments.{after_outcome, settled, settled_as, settled_by, started, started_by, state_at}
+use Rattle.tk_app.specs.Moments.{after_outcome, settled_as, settled_by, started_by, state_at}
+use Rattle.tk_app.specs.MomentsByJob.{settled, started}
 use Rattle.tk_app.specs.Seen.{Meaning, Seen}
-use Rattle.tk_app.specs.Settle.{IsSettle, IsSoundIn, after_script, settle_meaning, start_meaning}
+use Rattle.tk_app.specs.Settle.{IsSettle, IsSoundIn, after_script, start_meaning}
+use Rattle.tk_app.specs.SettleJob.{settle_meaning}
 use Rattle.tk_app.specs.Sound.{BySettle, EndsSound, RunsSound}
 use Rattle.tk_app.proofs.ByEquations.{keeps_sound}
 use Rattle.tk_app.proofs.Only.{only_settle}

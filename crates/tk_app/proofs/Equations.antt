@@ -39,7 +39,8 @@ use Rattle.tk_app.specs.Items.{waiting_meaning, waiting_taken, idle_meaning, idl
 use Rattle.tk_app.specs.Jobs.{goes_on, meaning, on_next, starts}
 use Rattle.tk_app.specs.Outside.{run_in}
 use Rattle.tk_app.specs.Seen.{Seen}
-use Rattle.tk_app.specs.Settle.{IsSoundIn, settle_meaning}
+use Rattle.tk_app.specs.Settle.{IsSoundIn}
+use Rattle.tk_app.specs.SettleJob.{settle_meaning}
 use Rattle.tk_app.proofs.Panels.{chosen_screen, laid_closed, next_moment, nothing_again, nothing_to_lay, same_closed}
 use Rattle.tk_app.proofs.Nexts.{goes_by_next}
 

@@ -28,7 +28,7 @@ use Rattle.tk_app.specs.Commands.{scripts_in}
 use Rattle.tk_app.specs.Outside.{calls, course}
 use Rattle.tk_app.specs.Seen.{Seen}
 use Rattle.tk_app.specs.Items.{on_idle, on_layout, on_queue, on_timer as timer_item}
-use Rattle.tk_app.specs.Settle.{EndsLaidOut, SettlesTwice, settle_meaning, settling}
+use Rattle.tk_app.specs.SettleJob.{EndsLaidOut, SettlesTwice, settle_meaning, settling}
 use Rattle.tk_app.proofs.ByEquations.{settles_all}
 use Rattle.tk_app.proofs.Equations.{none_due}
 use Rattle.tk_app.proofs.Homes.{keeps}

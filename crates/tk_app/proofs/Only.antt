@@ -29,7 +29,8 @@ use Rattle.tk_app.specs.Items.{waiting_meaning, waiting_taken, idle_meaning, ite
 use Rattle.tk_app.specs.Jobs.{meaning, meaning_by}
 use Rattle.tk_app.specs.Outside.{outside, run_in}
 use Rattle.tk_app.specs.Seen.{Seen}
-use Rattle.tk_app.specs.Settle.{IsSoundIn, OnlySettle, OnlyUpdate, settle_meaning}
+use Rattle.tk_app.specs.Settle.{IsSoundIn}
+use Rattle.tk_app.specs.SettleJob.{OnlySettle, OnlyUpdate, settle_meaning}
 use Rattle.tk_app.specs.Sound.{EndsSound}
 use Rattle.tk_app.proofs.Commands.{scripts_run}
 use Rattle.tk_app.proofs.Equations.{idle_there, settle_goes, update_goes}

@@ -14,7 +14,8 @@ use Rattle.tk_app.specs.Moments.{after_outcome, settled_as, settled_by, started_
 use Rattle.tk_app.specs.Part.{Rests, BeginsWithScript, SettlesFromRest, done_as, settling_as, stage_done}
 use Rattle.tk_app.specs.Seen.{Meaning, Seen}
 use Rattle.tk_app.specs.Dispatch.{Run, global_meaning}
-use Rattle.tk_app.specs.Settle.{after_script, settle_meaning, settling, start_meaning}
+use Rattle.tk_app.specs.Settle.{after_script, start_meaning}
+use Rattle.tk_app.specs.SettleJob.{settle_meaning, settling}
 use Rattle.tk_app.proofs.Commands.{scripts_run}
 
 -- nothing comes behind the end

@@ -20,7 +20,7 @@ use Rattle.tcl_interp.specs.Leaves.{EndsWith, Leaves}
 use Rattle.tcl_interp.proofs.LeavesSame.{task_leaves}
 use Rattle.tk_after.specs.declared.waiting.WaitingScript.{WaitingScript}
 use Rattle.tk_after.specs.Timers.{due_moments, idle_ids, least}
-use Rattle.tk_app.specs.Stages.{IsPast}
+use Rattle.tk_app.specs.Due.{IsPast}
 use Rattle.tk_panel.specs.declared.job.Job.{Job}
 use Rattle.tk_panel.specs.Next.{next}
 use Rattle.tk_panel.specs.Panel.{Panel}
@@ -33,12 +33,14 @@ use Rattle.tk_app.specs.declared.state.AppState.TheVariants.{Running, Exhausted,
 use Rattle.tk_app.specs.Application.{Application, next_due, next_due_as, panel_at}
 use Rattle.tk_app.specs.Dues.{DueTakesAStep, SettledIsPast, StartedIsPast}
 use Rattle.tk_app.specs.Outside.{calls, called_as, alias_act, course, outside}
-use Rattle.tk_app.specs.Moments.{after_outcome, settled, settled_as, settled_by, started_by, state_after, state_at}
+use Rattle.tk_app.specs.Moments.{after_outcome, settled_as, settled_by, started_by, state_after, state_at}
+use Rattle.tk_app.specs.MomentsByJob.{settled}
 use Rattle.tk_app.specs.Seen.{Meaning, Seen}
 use Rattle.tk_app.specs.Commands.{scripts_in}
 use Rattle.tk_app.specs.Dispatch.{global_meaning, with_panel_but_moment}
 use Rattle.tk_app.specs.Jobs.{comes_next}
-use Rattle.tk_app.specs.Settle.{after_script, settle_meaning, settling, start_meaning}
+use Rattle.tk_app.specs.Settle.{after_script, start_meaning}
+use Rattle.tk_app.specs.SettleJob.{settle_meaning, settling}
 use Rattle.tk_app.proofs.Homes.{keeps, look_stays, looked_last}
 use Rattle.tk_app.proofs.Nexts.{goes_by_next}
 use Rattle.tk_app.proofs.Parts.{settles, starts}

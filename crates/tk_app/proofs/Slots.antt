@@ -3,7 +3,7 @@ use Rattle.std.proofs.Common.{◌≡◌, ◌≢◌, ℕ, zero, suc, ◌+◌, ◌
 use Rattle.std.specs.Prelude.{Any, None, Option, Some, option_and_then, option_map, slice_get}
 use Rattle.std.proofs.lemmas.Option.{slice_get_past, slice_get_read}
 use Rattle.tk_panel.specs.declared.tables.Tables.{Tables}
-use Rattle.tk_panel.specs.Panel.{panel_of}
+use Rattle.tk_panel.specs.Shared.{panel_of}
 use Rattle.tk_app.specs.Application.{Application}
 use Rattle.tk_app.specs.Inspection.{seen_in}
 use Rattle.tk_app.specs.Part.{Part}

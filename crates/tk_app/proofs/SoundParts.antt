@@ -18,9 +18,11 @@ use Rattle.tk_app.specs.declared.state.AppState.TheVariants.{Running, Exhausted,
 use Rattle.tk_app.specs.Application.{Application, panel_at}
 use Rattle.tk_app.specs.Commands.{scripts_in}
 use Rattle.tk_app.specs.Dispatch.{global_meaning, with_panel_but_moment}
-use Rattle.tk_app.specs.Moments.{after_outcome, delivered, delivered_as, settled, settled_as, settled_by, started, started_by, state_at}
+use Rattle.tk_app.specs.Moments.{after_outcome, delivered, delivered_as, settled_as, settled_by, started_by, state_at}
+use Rattle.tk_app.specs.MomentsByJob.{settled, started}
 use Rattle.tk_app.specs.Seen.{Meaning, Seen}
-use Rattle.tk_app.specs.Settle.{IsSoundIn, after_script, settle_meaning, settling, start_meaning}
+use Rattle.tk_app.specs.Settle.{IsSoundIn, after_script, start_meaning}
+use Rattle.tk_app.specs.SettleJob.{settle_meaning, settling}
 use Rattle.tk_app.specs.Sound.{EndsSound, RunsSound, StaysSound}
 use Rattle.tk_app.proofs.ByEquations.{keeps_sound}
 use Rattle.tk_app.proofs.Trees.{end_screen}

@@ -5,7 +5,8 @@ use Rattle.std.proofs.lemmas.Bool.{leb-true, leb-false, eqb-true, eqb-false}
 use Rattle.std.proofs.lemmas.List.Sums.{sum_by-cons}
 use Rattle.tk_app.specs.declared.turns.Turn.{Turn}
 use Rattle.tk_app.specs.Passing.{brought}
-use Rattle.tk_app.specs.Stages.{IsPast, earlier, settled_if, settled_if_due_at, stage_at, first_moment_due, turns_at}
+use Rattle.tk_app.specs.Stages.{earlier, stage_at, first_moment_due, turns_at}
+use Rattle.tk_app.specs.Due.{IsPast, settled_if, settled_if_due_at}
 use Rattle.tk_app.specs.Together.{passed_together, turns_to}
 use Rattle.tk_app.proofs.Passing.{pass_none, pass_late, pass_step, brought_none, brought_late, brought_step}
 

@@ -7,7 +7,7 @@ use Rattle.tk_app.specs.Rounds.{one_turn}
 use Rattle.tk_panel.specs.declared.tables.Tables.{Tables}
 use Rattle.tk_panel.specs.Fresh.{nothing}
 use Rattle.tk_panel.specs.Others.{others_of}
-use Rattle.tk_panel.specs.Panel.{panel_of}
+use Rattle.tk_panel.specs.Shared.{panel_of}
 use Rattle.tk_panel.proofs.Others.{other_same}
 use Rattle.tk_app.specs.Part.{Part}
 use Rattle.tk_app.specs.Turns.{Applications, ChangesOnly, ChangesPart, IsVacantFrom, Program, part_of, parts_from}

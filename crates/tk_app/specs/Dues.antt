@@ -1,9 +1,9 @@
 -- Meaning. What is due of an application, and what settling makes of that.
 use Rattle.std.specs.Prelude.{◌≡◌, ℕ, ◌<◌, ◌≤◌, List, Some}
-use Rattle.tk_app.specs.Stages.{IsPast}
+use Rattle.tk_app.specs.Due.{IsPast}
 use Rattle.tk_app.specs.declared.state.AppState.TheVariants.{Running}
 use Rattle.tk_app.specs.Application.{Application, next_due}
-use Rattle.tk_app.specs.Moments.{settled, started}
+use Rattle.tk_app.specs.MomentsByJob.{settled, started}
 use Rattle.tk_app.specs.Seen.{Meaning}
 
 module _ {M : Type 0} (answer : M → Meaning) where

@@ -5,6 +5,7 @@ pub mod Commands
 pub mod Course
 pub mod Destroy
 pub mod Dispatch
+pub mod Due
 pub mod Dues
 pub mod Gone
 pub mod Inspection
@@ -12,6 +13,7 @@ pub mod Items
 pub mod JobLaws
 pub mod Jobs
 pub mod Moments
+pub mod MomentsByJob
 pub mod Names
 pub mod Outside
 pub mod Part
@@ -21,6 +23,7 @@ pub mod Rounds
 pub mod Section
 pub mod Seen
 pub mod Settle
+pub mod SettleJob
 pub mod Shares
 pub mod Sound
 pub mod Spec

@@ -10,7 +10,7 @@ use Rattle.tk_app.specs.declared.state.AppState.TheVariants.{Running, Exhausted,
 use Rattle.tk_app.specs.Application.{Application, panel_at, with_panel}
 use Rattle.tk_app.specs.Dispatch.{Continuation}
 use Rattle.tk_app.specs.Seen.{Meaning, Seen, meanings}
-use Rattle.tk_app.specs.Settle.{settle_meaning, start_meaning}
+use Rattle.tk_app.specs.Settle.{start_meaning}
 
 -- how many steps are left once an event has granted some: as many as there were at first, at most
 abbrev pub granted : Budget → ℕ → ℕ
@@ -76,10 +76,3 @@ module _ {M : Type 0} (answer : M → Meaning) where
 
     unfoldable pub settled_by : ℕ → Application M → Application M
     settled_by moment application = settled_as application.state moment application
-
-  -- *Settle* is what its job comes to
-  abbrev pub started : ℕ → List ℕ → Application M → Application M
-  started = started_by settle_meaning
-
-  abbrev pub settled : ℕ → Application M → Application M
-  settled = settled_by settle_meaning

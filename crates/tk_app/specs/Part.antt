@@ -10,10 +10,11 @@ use Rattle.tk_panel.specs.declared.job.Job.{Job}
 use Rattle.tk_app.specs.declared.state.AppState.{AppState}
 use Rattle.tk_app.specs.declared.state.AppState.TheVariants.{Running, Exhausted, Closed}
 use Rattle.tk_app.specs.Application.{Application, fresh}
-use Rattle.tk_app.specs.Moments.{after_outcome, settled, started, state_in}
+use Rattle.tk_app.specs.Moments.{after_outcome, state_in}
+use Rattle.tk_app.specs.MomentsByJob.{settled, started}
 use Rattle.tk_app.specs.Outside.{outside}
 use Rattle.tk_app.specs.Seen.{Meaning}
-use Rattle.tk_app.specs.Settle.{settling}
+use Rattle.tk_app.specs.SettleJob.{settling}
 use Rattle.tk_app.specs.Spec.{Spec}
 use Rattle.tcl_text.specs.Limits.{most_running}
 

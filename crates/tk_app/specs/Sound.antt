@@ -9,7 +9,8 @@ use Rattle.tk_app.specs.Application.{Application, fresh}
 use Rattle.tk_app.specs.Commands.{scripts_in}
 use Rattle.tk_app.specs.Dispatch.{Continuation, global_meaning}
 use Rattle.tk_app.specs.Jobs.{meaning}
-use Rattle.tk_app.specs.Moments.{delivered, settled, settled_by, started, started_by}
+use Rattle.tk_app.specs.Moments.{delivered, settled_by, started_by}
+use Rattle.tk_app.specs.MomentsByJob.{settled, started}
 use Rattle.tk_app.specs.Seen.{Meaning, Seen}
 use Rattle.tk_app.specs.Settle.{IsSettle, IsSoundIn}
 use Rattle.tk_app.specs.Spec.{Spec}

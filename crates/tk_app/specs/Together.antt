@@ -3,7 +3,8 @@
 use Rattle.std.specs.Prelude.{◌≡◌, ◌<◌, ◌⊎◌, ℕ, zero, suc, ◌-◌, ◌++◌, List, [], ◌∷◌, sum_by, Option, Some}
 use Rattle.tk_app.specs.declared.turns.Turn.{Turn}
 use Rattle.tk_app.specs.Passing.{brought, pass}
-use Rattle.tk_app.specs.Stages.{IsPast, first_moment_due, stage_at, turns_at}
+use Rattle.tk_app.specs.Stages.{first_moment_due, stage_at, turns_at}
+use Rattle.tk_app.specs.Due.{IsPast}
 
 -- a number is one of these
 abbrev pub IsAmong : ℕ → List ℕ → Type 0

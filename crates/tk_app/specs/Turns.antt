@@ -14,7 +14,8 @@ use Rattle.tk_panel.specs.declared.job.Job.{Job}
 use Rattle.tk_route.specs.Limits.{most_applications}
 use Rattle.tk_panel.specs.declared.tables.Tables.{Tables}
 use Rattle.tk_panel.specs.Fresh.{nothing}
-use Rattle.tk_panel.specs.Panel.{Panel, panel_of}
+use Rattle.tk_panel.specs.Panel.{Panel}
+use Rattle.tk_panel.specs.Shared.{panel_of}
 use Rattle.tk_app.specs.declared.turns.Turn.{Turn}
 use Rattle.tk_app.specs.Rounds.{one_turn}
 use Rattle.tk_base.specs.declared.budget.Budget.{Budget}
@@ -29,7 +30,7 @@ use Rattle.tk_app.specs.Names.{command_names}
 use Rattle.tk_app.specs.Moments.{delivered, granted}
 use Rattle.tk_app.specs.Part.{Part, Work, Rests, needs, settling_begun, stage_done, task_begins}
 use Rattle.tk_app.specs.Seen.{Meaning, names_of}
-use Rattle.tk_app.specs.Settle.{settling}
+use Rattle.tk_app.specs.SettleJob.{settling}
 
 -- the moment, the part in each slot, the turns that were taken, and whether memory was refused while one was taken
 pub record Applications (M : Type 0) : Type 0 where

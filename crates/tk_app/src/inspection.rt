@@ -3,7 +3,7 @@ ghost use Rattle.std.specs.Prelude.{◌≡◌, option_and_then, option_map};
 ghost use Rattle.std.specs.Option.{option_copied};
 ghost use Rattle.std.specs.Result.{result_ok};
 ghost use Rattle.tcl_vars.specs.Store.{variable_in};
-ghost use Rattle.tk_panel.specs.Panel.{panel_of};
+ghost use Rattle.tk_panel.specs.Shared.{panel_of};
 ghost use Rattle.tk_screen.specs.Widgets.{widget_at};
 ghost use Rattle.tk_tree.specs.Own.{at_path, window_at};
 

@@ -1,6 +1,6 @@
 //! The tables as the interpreter of one application sees them: its jobs, its commands and its aliases.
 ghost use Rattle.std.specs.Prelude.{◌≡◌, IfOk};
-ghost use Rattle.tk_panel.specs.Panel.{LeavesOthers, panel_of};
+ghost use Rattle.tk_panel.specs.Shared.{LeavesOthers, panel_of};
 ghost use Rattle.tk_app.specs.Outside.{calls};
 ghost use Rattle.tk_app.specs.Seen.{meanings};
 
@@ -64,7 +64,7 @@ fn call<M: AliasService>(
 impl<M: AliasService> Jobs for AppTables<'_, M> {
     ghost use Rattle.std.specs.Prelude.{ℕ, List};
     ghost use Rattle.tk_panel.specs.Others.{LeftAlone, left_of};
-    ghost use Rattle.tk_panel.specs.Panel.{panel_of};
+    ghost use Rattle.tk_panel.specs.Shared.{panel_of};
     ghost use Rattle.tk_app.specs.Outside.{course as own_course};
     ghost use Rattle.tk_app.specs.Seen.{Seen, meanings};
 
@@ -100,7 +100,7 @@ impl<M: AliasService> Tasks for AppTables<'_, M> {
     ghost use Rattle.std.specs.Prelude.{ℕ, List};
     ghost use Rattle.tcl_interp.specs.Falls.{jobs_fall};
     ghost use Rattle.tk_panel.specs.Others.{LeftAlone, left_of};
-    ghost use Rattle.tk_panel.specs.Panel.{panel_of};
+    ghost use Rattle.tk_panel.specs.Shared.{panel_of};
     ghost use Rattle.tk_app.specs.Outside.{calls, course, outside as own_commands};
     ghost use Rattle.tk_app.specs.Seen.{Seen, meanings};
 

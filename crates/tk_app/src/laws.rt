@@ -20,7 +20,7 @@ ghost use Rattle.tk_app.specs.JobLaws.{
   UpdateGoes,
   UpdatesIdleTasks,
 };
-ghost use Rattle.tk_app.specs.Settle.{EndsLaidOut, OnlySettle, OnlyUpdate, Settles, SettlesTwice, Updates};
+ghost use Rattle.tk_app.specs.SettleJob.{EndsLaidOut, OnlySettle, OnlyUpdate, Settles, SettlesTwice, Updates};
 ghost use Rattle.tk_app.specs.Sound.{BySettle, KeepsSound, StaysSound};
 
 use tk_alias::AliasMeaning;

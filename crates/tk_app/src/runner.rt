@@ -1,5 +1,5 @@
 ghost use Rattle.std.specs.Prelude.{◌≡◌};
-ghost use Rattle.tk_panel.specs.Panel.{panel_of};
+ghost use Rattle.tk_panel.specs.Shared.{panel_of};
 ghost use Rattle.tk_app.specs.Moments.{state_after};
 ghost use Rattle.tk_app.specs.Turns.{end_as, end_of};
 
@@ -96,7 +96,7 @@ fn end_as(state: AppState) -> AppEnd
 impl<M: AliasService> Runner<M> {
     ghost use Rattle.std.specs.Prelude.{◌≡◌, ◌≢◌, ◌<◌, ◌≤◌, ◌+◌, ◌↔◌, ◌⊎◌, IfOk, IsTrue, OnErr, OnOk};
     ghost use Rattle.tk_panel.specs.Others.{others_of};
-    ghost use Rattle.tk_panel.specs.Panel.{panel_of};
+    ghost use Rattle.tk_panel.specs.Shared.{panel_of};
     ghost use Rattle.tk_app.specs.declared.state.AppState.TheVariants.{Running};
     ghost use Rattle.tk_app.specs.Moments.{granted};
     ghost use Rattle.tk_app.specs.Part.{Rests, is_under_way, settling_as};

@@ -1,6 +1,6 @@
 //! The section of an application.
 ghost use Rattle.std.specs.Prelude.{◌≡◌, ◌++◌, IfOk, OnOk, flat_map};
-ghost use Rattle.tk_panel.specs.Panel.{panel_of};
+ghost use Rattle.tk_panel.specs.Shared.{panel_of};
 ghost use Rattle.tk_app.specs.Section.{head_line, section, transcript_line};
 ghost use Rattle.tk_app.specs.Turns.{application_of};
 

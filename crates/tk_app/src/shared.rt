@@ -1,5 +1,5 @@
 ghost use Rattle.std.specs.Prelude.{◌≡◌, ◌↔◌, Any, IsTrue};
-ghost use Rattle.tk_panel.specs.Panel.{panel_of};
+ghost use Rattle.tk_panel.specs.Shared.{panel_of};
 ghost use Rattle.tk_app.specs.Application.{next_due_as};
 
 use crate::Turn;

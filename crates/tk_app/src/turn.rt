@@ -4,7 +4,7 @@ ghost use Rattle.std.specs.Vec.{vec_capacity, vec_len};
 ghost use Rattle.tcl_interp.specs.Finish.{Broken, Idle, finish};
 ghost use Rattle.tcl_interp.specs.Interp.{LeavesRest, Reaches, budget_of, left_of, rest_of, state_of};
 ghost use Rattle.tk_panel.specs.Others.{others_of};
-ghost use Rattle.tk_panel.specs.Panel.{panel_of};
+ghost use Rattle.tk_panel.specs.Shared.{panel_of};
 ghost use Rattle.tk_app.specs.Rounds.{one_turn};
 ghost use Rattle.tk_app.specs.Outside.{outside};
 ghost use Rattle.tk_app.specs.Moments.{delivered, granted};

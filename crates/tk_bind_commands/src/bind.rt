@@ -3,9 +3,10 @@ ghost use Rattle.std.specs.Prelude.{◌≡◌, ◌++◌, ◌<◌, map, IfOk, OnE
 ghost use Rattle.std.specs.Option.{option_copied};
 ghost use Rattle.tcl_text.specs.Answers.{Gives, answers};
 ghost use Rattle.tk_bind_commands.specs.Bind as spec;
-ghost use Rattle.tk_patterns.specs.Own.{LeavesAll, LeavesOthers, own_of, script_of, sequences_of};
+ghost use Rattle.tk_patterns.specs.Own.{script_of, sequences_of};
+ghost use Rattle.tk_patterns.specs.Shared.{LeavesAll, LeavesOthers, own_of};
 ghost use Rattle.tk_sequences.specs.Writing.{canonical};
-ghost use Rattle.tk_tree.specs.Own as windows_of;
+ghost use Rattle.tk_tree.specs.Shared as windows_of;
 
 use crate::answers::{sequence_in, test_tag};
 use std::alloc::{AllocError, Global};

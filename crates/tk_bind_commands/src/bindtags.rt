@@ -2,7 +2,8 @@
 ghost use Rattle.std.specs.Prelude.{◌≡◌, IfOk, IsSome, OnErr, Some};
 ghost use Rattle.tcl_text.specs.Answers.{Gives};
 ghost use Rattle.tk_bind_commands.specs.Bindtags as spec;
-ghost use Rattle.tk_tree.specs.Own.{LeavesOthers, at_path, own_of, window_at};
+ghost use Rattle.tk_tree.specs.Own.{at_path, window_at};
+ghost use Rattle.tk_tree.specs.Shared.{LeavesOthers, own_of};
 
 use std::alloc::{AllocError, Global};
 use tcl_text::answers::{Refusal, answered, wrong_args};

@@ -4,7 +4,8 @@ ghost use Rattle.tcl_text.specs.Answers.{Gives};
 ghost use Rattle.tk_bind_commands.specs.Event as spec;
 ghost use Rattle.tk_bind_commands.specs.Words.{or_virtual_fault};
 ghost use Rattle.tk_sequences.specs.Words.{name_in};
-ghost use Rattle.tk_virtual.specs.Virtual.{LeavesOthers, name_or_fault, own_of};
+ghost use Rattle.tk_virtual.specs.Virtual.{name_or_fault};
+ghost use Rattle.tk_virtual.specs.Shared.{LeavesOthers, own_of};
 
 use crate::answers::{virtual_refusal, virtual_refused};
 use std::alloc::{AllocError, Global};

@@ -2,8 +2,8 @@
 ghost use Rattle.std.specs.Prelude.{◌≡◌, IfOk, OnOk, codes};
 ghost use Rattle.std.specs.Option.{option_copied};
 ghost use Rattle.tk_class_commands.specs.Buttons as spec;
-ghost use Rattle.tk_inputs.specs.Inputs as inputs_of;
-ghost use Rattle.tk_screen.specs.Own.{LeavesOthers, own_of};
+ghost use Rattle.tk_inputs.specs.Shared as inputs_of;
+ghost use Rattle.tk_screen.specs.Shared.{LeavesOthers, own_of};
 
 use crate::changes::make;
 use crate::outcome::{ClassOutcome, nothing};

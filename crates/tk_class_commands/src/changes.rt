@@ -1,7 +1,7 @@
 //! Changes of widgets that have to do with no variable.
 ghost use Rattle.std.specs.Prelude.{◌≡◌, OnOk};
 ghost use Rattle.tk_class_commands.specs.Changes.{with_change};
-ghost use Rattle.tk_screen.specs.Own.{LeavesOthers, own_of};
+ghost use Rattle.tk_screen.specs.Shared.{LeavesOthers, own_of};
 
 use std::alloc::{AllocError, Global};
 use tk_base::Win;

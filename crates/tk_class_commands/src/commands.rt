@@ -3,9 +3,9 @@ ghost use Rattle.std.specs.Prelude.{◌≡◌, IfOk};
 ghost use Rattle.tk_class_commands.specs.Commands as spec;
 ghost use Rattle.tk_class_commands.specs.Outcomes.{done};
 ghost use Rattle.tk_inputs.specs.Deliver.{arrivals_of};
-ghost use Rattle.tk_inputs.specs.Inputs as inputs_of;
+ghost use Rattle.tk_inputs.specs.Shared as inputs_of;
 ghost use Rattle.tk_dispatch.specs.Queue as queue_of;
-ghost use Rattle.tk_screen.specs.Own.{LeavesOthers, own_of};
+ghost use Rattle.tk_screen.specs.Shared.{LeavesOthers, own_of};
 
 use crate::buttons::act;
 use crate::entries::entry_asked;

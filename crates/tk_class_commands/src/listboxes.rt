@@ -2,9 +2,9 @@
 ghost use Rattle.std.specs.Prelude.{◌≡◌, IfOk, OnOk};
 ghost use Rattle.tk_class_commands.specs.Listboxes as spec;
 ghost use Rattle.tk_inputs.specs.Deliver.{arrivals_of};
-ghost use Rattle.tk_inputs.specs.Inputs as inputs_of;
+ghost use Rattle.tk_inputs.specs.Shared as inputs_of;
 ghost use Rattle.tk_dispatch.specs.Queue as queue_of;
-ghost use Rattle.tk_screen.specs.Own.{LeavesOthers, own_of};
+ghost use Rattle.tk_screen.specs.Shared.{LeavesOthers, own_of};
 ghost use Rattle.tk_widgets.specs.ListboxKeys.{place_after, row_of};
 
 use crate::changes::make;

@@ -2,7 +2,7 @@
 ghost use Rattle.std.specs.Prelude.{◌≡◌};
 ghost use Rattle.tcl_text.specs.Answers.{Gives};
 ghost use Rattle.tk_class_commands.specs.Requests as spec;
-ghost use Rattle.tk_screen.specs.Own.{own_of};
+ghost use Rattle.tk_screen.specs.Shared.{own_of};
 
 use crate::buttons::ButtonRequest;
 use crate::entries::EntryRequest;

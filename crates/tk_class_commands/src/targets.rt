@@ -3,8 +3,9 @@ ghost use Rattle.std.specs.Prelude.{◌≡◌, Some};
 ghost use Rattle.std.specs.Option.{option_copied};
 ghost use Rattle.tcl_text.specs.Answers.{Gives, integer_in as integer_of};
 ghost use Rattle.tk_class_commands.specs.Targets as spec;
-ghost use Rattle.tk_screen.specs.Own.{own_of};
-ghost use Rattle.tk_tree.specs.Own.{own_of as tree_of, at_path};
+ghost use Rattle.tk_screen.specs.Shared.{own_of};
+ghost use Rattle.tk_tree.specs.Own.{at_path};
+ghost use Rattle.tk_tree.specs.Shared.{own_of as tree_of};
 
 use std::alloc::Global;
 use tcl_text::Text;

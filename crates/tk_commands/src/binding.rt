@@ -1,9 +1,9 @@
 //! The commands `bind`, `bindtags`, `event` and `focus`.
 ghost use Rattle.std.specs.Prelude.{◌≡◌, IfOk};
-ghost use Rattle.tk_panel.specs.Panel.{LeavesOthers, panel_of};
+ghost use Rattle.tk_panel.specs.Shared.{LeavesOthers, panel_of};
 ghost use Rattle.tk_commands.specs.Binding as spec;
 ghost use Rattle.tk_commands.specs.Outcomes.{told};
-ghost use Rattle.tk_screen.specs.Own as screens;
+ghost use Rattle.tk_screen.specs.Shared as screens;
 
 use crate::dispatch::generate;
 use crate::outcome::{CommandOutcome, answering};

@@ -1,7 +1,7 @@
 //! The commands of an application, as its interpreter calls them.
 ghost use Rattle.std.specs.Prelude.{◌≡◌, ◌⊎◌, ℕ, Err, IfErr, IfOk, IsOk};
 ghost use Rattle.tcl_table.specs.Source.{script_of};
-ghost use Rattle.tk_panel.specs.Panel.{LeavesOthers, panel_of};
+ghost use Rattle.tk_panel.specs.Shared.{LeavesOthers, panel_of};
 ghost use Rattle.tk_commands.specs.Calls.{act_of, calls, outcome_told};
 
 use crate::jobs::begin;

@@ -3,12 +3,12 @@ ghost use Rattle.std.specs.Prelude.{◌≡◌, IfOk};
 ghost use Rattle.tk_class_commands.specs.Commands as class_of;
 ghost use Rattle.tk_class_commands.specs.Outcomes as outcomes_of;
 ghost use Rattle.tk_inputs.specs.Deliver.{arrivals_of};
-ghost use Rattle.tk_inputs.specs.Inputs as inputs_of;
-ghost use Rattle.tk_panel.specs.Panel.{LeavesOthers, panel_of};
+ghost use Rattle.tk_inputs.specs.Shared as inputs_of;
+ghost use Rattle.tk_panel.specs.Shared.{LeavesOthers, panel_of};
 ghost use Rattle.tk_commands.specs.Class as spec;
 ghost use Rattle.tk_commands.specs.Outcomes.{done, told};
 ghost use Rattle.tk_dispatch.specs.Queue as queue_of;
-ghost use Rattle.tk_screen.specs.Own as screens;
+ghost use Rattle.tk_screen.specs.Shared as screens;
 
 use crate::dispatch::dispatch_selection;
 use crate::outcome::CommandOutcome;

@@ -1,7 +1,7 @@
 //! Commands by their names.
 ghost use Rattle.std.specs.Prelude.{◌≡◌, IfOk};
 ghost use Rattle.tk_pack_commands.specs.Targets.{begins_path};
-ghost use Rattle.tk_panel.specs.Panel.{LeavesOthers, panel_of};
+ghost use Rattle.tk_panel.specs.Shared.{LeavesOthers, panel_of};
 ghost use Rattle.tk_commands.specs.Commands as spec;
 
 use crate::binding::{BindingCommand, binding_command_done, binding_command_named};

@@ -1,9 +1,10 @@
 //! Events that commands dispatch at once, or queue.
 ghost use Rattle.std.specs.Prelude.{◌≡◌, IfOk, codes};
-ghost use Rattle.tk_panel.specs.Panel.{LeavesOthers, panel_of};
+ghost use Rattle.tk_panel.specs.Shared.{LeavesOthers, panel_of};
 ghost use Rattle.tk_commands.specs.Dispatch as spec;
 ghost use Rattle.tk_commands.specs.Outcomes.{told};
-ghost use Rattle.tk_tree.specs.Own as windows_of;
+ghost use Rattle.tk_tree.specs.Own.{window_at};
+ghost use Rattle.tk_tree.specs.Shared as windows_of;
 
 use crate::outcome::{Begun, CommandOutcome};
 use std::alloc::{AllocError, Global};
@@ -95,7 +96,7 @@ fn selection_event(
     number: u64,
     moment: u64,
 ) -> Result<Option<Event>, AllocError>
-    ensures { IfOk result (λ event. event ≡ spec.selection_of moment (windows_of.window_at number (windows_of.own_of slot windows.now))) }
+    ensures { IfOk result (λ event. event ≡ spec.selection_of moment (window_at number (windows_of.own_of slot windows.now))) }
 {
     let Some(window) = windows.window(Win {
         owner: slot,

@@ -1,7 +1,7 @@
 //! The course of an application's jobs.
 ghost use Rattle.std.specs.Prelude.{◌≡◌, IfOk, OnOk};
 ghost use Rattle.tcl_vars.specs.Store.{Store};
-ghost use Rattle.tk_panel.specs.Panel.{LeavesOthers, panel_of};
+ghost use Rattle.tk_panel.specs.Shared.{LeavesOthers, panel_of};
 ghost use Rattle.tk_panel.specs.Reports.{with_line};
 ghost use Rattle.tk_commands.specs.Calls.{goes_on};
 ghost use Rattle.tk_commands.specs.Course.{

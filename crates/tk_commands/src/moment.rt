@@ -1,6 +1,6 @@
 //! The commands `puts`, `after`, `clock`, `update` and `destroy`.
 ghost use Rattle.std.specs.Prelude.{◌≡◌, IfOk};
-ghost use Rattle.tk_panel.specs.Panel.{LeavesOthers, panel_of};
+ghost use Rattle.tk_panel.specs.Shared.{LeavesOthers, panel_of};
 ghost use Rattle.tk_commands.specs.Moment as spec;
 ghost use Rattle.tk_commands.specs.Outcomes.{told};
 

@@ -1,9 +1,9 @@
 //! The commands on windows: those that make them, `winfo`, `wm` and `pack`.
 ghost use Rattle.std.specs.Prelude.{◌≡◌, IfOk};
-ghost use Rattle.tk_panel.specs.Panel.{LeavesOthers, panel_of};
+ghost use Rattle.tk_panel.specs.Shared.{LeavesOthers, panel_of};
 ghost use Rattle.tk_commands.specs.Outcomes.{done};
 ghost use Rattle.tk_commands.specs.Screen as spec;
-ghost use Rattle.tk_screen.specs.Own as screens;
+ghost use Rattle.tk_screen.specs.Shared as screens;
 ghost use Rattle.tk_window_commands.specs.Commands as windows_of;
 
 use crate::outcome::{CommandOutcome, answering};

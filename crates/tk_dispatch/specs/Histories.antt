@@ -1,4 +1,4 @@
--- Meaning. The histories of all applications.
+-- Steps. The histories of all applications, and one's part of them.
 use Rattle.std.specs.Prelude.{◌≡◌, ◌≢◌, ℕ, nat_eq, List, []}
 use Rattle.std.specs.Option.{option_map_or}
 use Rattle.std.specs.Map.{lookup}

@@ -1,4 +1,4 @@
--- Meaning. The queued events of each application, the next one first.
+-- Steps. The queued events of all applications, and one's part of them, the next one first.
 use Rattle.std.specs.Prelude.{◌≡◌, ◌≢◌, ℕ, nat_eq, List, []}
 use Rattle.std.specs.Option.{option_map_or}
 use Rattle.std.specs.Map.{lookup}

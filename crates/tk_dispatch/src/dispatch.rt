@@ -1,9 +1,10 @@
 //! The choice of scripts.
 ghost use Rattle.std.specs.Prelude.{◌≡◌, IfOk};
 ghost use Rattle.tk_dispatch.specs.Dispatch.{script_of, scripts_for, scripts_of, with_fields};
-ghost use Rattle.tk_patterns.specs.Own as bindings_of;
-ghost use Rattle.tk_tree.specs.Own as windows_of;
-ghost use Rattle.tk_virtual.specs.Virtual as virtuals_of;
+ghost use Rattle.tk_patterns.specs.Shared as bindings_of;
+ghost use Rattle.tk_tree.specs.Shared as windows_of;
+ghost use Rattle.tk_virtual.specs.Virtual.{meanings_of};
+ghost use Rattle.tk_virtual.specs.Shared as virtuals_of;
 
 use crate::substitute;
 use crate::tag::is_live;
@@ -65,7 +66,7 @@ fn scripts_of(
     tags: &[Text],
 ) -> Result<Result<TextList, Text>, AllocError>
     ensures { IfOk result (λ chosen. chosen ≡ scripts_of (windows_of.own_of choice.now.owner choice.now.windows.now)
-        (virtuals_of.meanings_of choice.now.virtuals.now) (bindings_of.own_of choice.now.owner choice.now.bindings.now)
+        (meanings_of choice.now.virtuals.now) (bindings_of.own_of choice.now.owner choice.now.bindings.now)
         choice.now.history.now choice.now.event.now tags.now) }
 {
     let mut scripts = TextList::new(alloc);
@@ -86,7 +87,7 @@ fn script_of(
     tag: &str,
 ) -> Result<Option<Result<Text, Text>>, AllocError>
     ensures { IfOk result (λ script. script ≡ script_of (windows_of.own_of choice.now.owner choice.now.windows.now)
-        (virtuals_of.meanings_of choice.now.virtuals.now) (bindings_of.own_of choice.now.owner choice.now.bindings.now)
+        (meanings_of choice.now.virtuals.now) (bindings_of.own_of choice.now.owner choice.now.bindings.now)
         choice.now.history.now choice.now.event.now tag.now) }
 {
     if !is_live(choice.windows, choice.owner, tag) {

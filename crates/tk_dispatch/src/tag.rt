@@ -1,7 +1,7 @@
 //! Binding tags that are paths of windows.
 ghost use Rattle.std.specs.Prelude.{◌≡◌};
 ghost use Rattle.tk_dispatch.specs.Dispatch.{is_live, is_path};
-ghost use Rattle.tk_tree.specs.Own.{own_of};
+ghost use Rattle.tk_tree.specs.Shared.{own_of};
 
 use tk_tree::Windows;
 

@@ -4,7 +4,8 @@ ghost use Rattle.std.specs.Option.{option_copied};
 ghost use Rattle.tcl_text.specs.Answers.{Gives, fails, wrong_args as wrong_args_of};
 ghost use Rattle.tk_generate.specs.Generate as spec;
 ghost use Rattle.tk_tree.specs.Corners.{corner};
-ghost use Rattle.tk_tree.specs.Own.{at_path, own_of, window_at};
+ghost use Rattle.tk_tree.specs.Own.{at_path, window_at};
+ghost use Rattle.tk_tree.specs.Shared.{own_of};
 
 use crate::asked::{EventRequest, asked_in};
 use crate::fields::{button_for, detail_for, from_corner, key_for, place_for, root_for, state_for};

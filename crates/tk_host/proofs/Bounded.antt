@@ -7,11 +7,12 @@ use Rattle.std.proofs.lemmas.List.Sums.{sum_by-cons}
 use Rattle.tk_base.specs.declared.local_event.LocalEvent.{LocalEvent}
 use Rattle.tk_route.specs.declared.delivery.Delivery.{Delivery}
 use Rattle.tk_route.specs.Routes.{events_of}
-use Rattle.tk_app.specs.Stages.{settled_if_due_at, used_at}
+use Rattle.tk_app.specs.Stages.{used_at}
+use Rattle.tk_app.specs.Due.{settled_if_due_at}
 use Rattle.tk_app.proofs.Rounds.{sum-cons}
 use Rattle.tk_app.proofs.Shares.{steps_in_turns, sum_used}
 use Rattle.tk_app.specs.Application.{Application, next_due}
-use Rattle.tk_app.specs.Moments.{settled}
+use Rattle.tk_app.specs.MomentsByJob.{settled}
 use Rattle.tk_app.specs.Part.{Part, needs, stage_done}
 use Rattle.tk_app.specs.Seen.{Meaning}
 use Rattle.tk_host.specs.Bounds.{BoundedStages, IsOneEach, granted_for, granted_in}

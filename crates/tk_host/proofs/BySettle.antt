@@ -4,15 +4,17 @@ use Rattle.std.specs.Prelude.{nat_eq, if◌then◌else◌}
 use Rattle.tk_base.specs.declared.local_event.LocalEvent.{LocalEvent}
 use Rattle.tk_app.specs.Application.{Application, fresh, next_due}
 use Rattle.tk_app.specs.Dispatch.{Continuation}
-use Rattle.tk_app.specs.Moments.{delivered, settled, settled_by}
+use Rattle.tk_app.specs.Moments.{delivered, settled_by}
+use Rattle.tk_app.specs.MomentsByJob.{settled}
 use Rattle.tk_app.specs.Seen.{Meaning}
 use Rattle.tk_app.specs.Settle.{IsSettle}
 use Rattle.tk_app.specs.Sound.{RunsSound}
 use Rattle.tk_app.specs.Spec.{Spec}
-use Rattle.tk_app.specs.Stages.{settled_if}
+use Rattle.tk_app.specs.Due.{settled_if}
 use Rattle.tk_app.proofs.BySettle.{by_settle}
 use Rattle.tk_app.proofs.SoundParts.{stays_sound}
-use Rattle.tk_host.specs.Alone.{after_event_by, after_events, after_events_by, at_moment, at_moment_by, passed, passed_by}
+use Rattle.tk_host.specs.Alone.{after_event_by, after_events_by, at_moment_by, passed_by}
+use Rattle.tk_host.specs.AloneByJob.{after_events, at_moment, passed}
 use Rattle.tk_host.specs.BySettle.{AloneBySettle, PassedBySettle}
 
 module _ {M : Type 0} (answer : M → Meaning) where

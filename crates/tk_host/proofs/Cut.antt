@@ -11,7 +11,7 @@ use Rattle.tk_route.specs.declared.fault.HostFault.{HostFault}
 use Rattle.tk_route.specs.declared.fault.HostFault.TheVariants.{Refused, NoMemory}
 use Rattle.tk_app.specs.declared.turns.Turn.{Turn}
 use Rattle.tk_app.specs.Application.{Application, next_due}
-use Rattle.tk_app.specs.Moments.{settled}
+use Rattle.tk_app.specs.MomentsByJob.{settled}
 use Rattle.tk_app.specs.Part.{Part, needs}
 use Rattle.tk_app.specs.Rounds.{one_turn, round, round_from, turns_of}
 use Rattle.tk_app.specs.Seen.{Meaning}
@@ -19,7 +19,7 @@ use Rattle.tk_app.specs.Stages.{first_moment_due, stage_at, turns_at}
 use Rattle.tk_app.specs.Turns.{Applications, BeginsIn, ChangesOnly}
 use Rattle.tk_app.proofs.Rounds.{turns_step}
 use Rattle.tk_host.specs.declared.phase.Phase.{Phase}
-use Rattle.tk_host.specs.Alone.{passed}
+use Rattle.tk_host.specs.AloneByJob.{passed}
 use Rattle.tk_host.specs.Cut.{CutBy, CutByLine, CutShortBy, IsCutShort, TellsAll, TellsAtLeast}
 use Rattle.tk_host.specs.Held.{Call, HostState, Hosted, after_line, after_start, gone_to, held_after}
 use Rattle.tk_host.specs.Slots.{begun_at}

@@ -11,7 +11,7 @@ use Rattle.tk_app.specs.Part.{Part, Rests, needs, settling_begun, stage_done}
 use Rattle.tk_app.specs.Seen.{Meaning}
 use Rattle.tk_app.specs.Turns.{Applications, BeginsIn, DeliversIn}
 use Rattle.tk_app.proofs.Parts.{settles_from_rest}
-use Rattle.tk_host.specs.Alone.{after_event}
+use Rattle.tk_host.specs.AloneByJob.{after_event}
 use Rattle.tk_host.specs.Held.{at_rest}
 use Rattle.tk_host.specs.Ready.{AllRest}
 use Rattle.tk_host.specs.Slots.{given_event, given_from}

@@ -5,10 +5,11 @@ use Rattle.tk_base.specs.declared.local_event.LocalEvent.{LocalEvent}
 use Rattle.tk_app.specs.declared.state.AppState.{AppState}
 use Rattle.tk_app.specs.declared.state.AppState.TheVariants.{Running, Exhausted, Closed}
 use Rattle.tk_app.specs.Application.{Application}
-use Rattle.tk_app.specs.Moments.{delivered, delivered_as, granted, settled}
+use Rattle.tk_app.specs.Moments.{delivered, delivered_as, granted}
+use Rattle.tk_app.specs.MomentsByJob.{settled}
 use Rattle.tk_app.specs.Seen.{Meaning}
 use Rattle.tk_app.specs.Spec.{Spec}
-use Rattle.tk_host.specs.Alone.{after_events, passed}
+use Rattle.tk_host.specs.AloneByJob.{after_events, passed}
 use Rattle.tk_host.specs.FirstFormat.{AloneWithoutRefills, after_events_without_refills, after_event_without_refills, given_as}
 use Rattle.tk_host.specs.Used.{before_event}
 use Rattle.tk_host.proofs.Used.{Fits, fits_before}

@@ -9,11 +9,12 @@ use Rattle.tk_route.specs.Lines.{Line, at, values}
 use Rattle.tk_route.specs.Routes.{events_of, routed, routes}
 use Rattle.tk_route.specs.declared.delivery.Delivery.{Delivery}
 use Rattle.tk_route.specs.declared.line.HostLine.{HostLine}
-use Rattle.tk_app.specs.Stages.{IsPast}
+use Rattle.tk_app.specs.Due.{IsPast}
 use Rattle.tk_app.specs.declared.turns.Turn.{Turn}
 use Rattle.tk_app.specs.Rounds.{turns_of}
 use Rattle.tk_app.specs.Application.{Application, fresh, next_due}
-use Rattle.tk_app.specs.Moments.{delivered, settled, started}
+use Rattle.tk_app.specs.Moments.{delivered}
+use Rattle.tk_app.specs.MomentsByJob.{settled, started}
 use Rattle.tk_app.specs.Part.{Part, Rests, added, needs, stage_done}
 use Rattle.tk_app.specs.Section.{section}
 use Rattle.tk_app.specs.Seen.{Meaning}
@@ -23,7 +24,7 @@ use Rattle.tk_route.specs.declared.fault.LineFault.TheVariants.{Started, Ended, 
 use Rattle.tk_host.specs.declared.phase.Phase.{Phase}
 use Rattle.tk_host.specs.declared.phase.Phase.TheVariants.{Adding, Reached, Finished, Lost}
 use Rattle.tk_host.specs.Spec.{Given, rect_of}
-use Rattle.tk_host.specs.Alone.{after_events, alone, passed}
+use Rattle.tk_host.specs.AloneByJob.{after_events, alone, passed}
 use Rattle.tk_host.specs.Held.{HostState, Hosted, Call, AddApp, Start, LineAt, AdvanceTo, End, after_line, at_rest, with_passed, with_app, after_start, gone_to, given_by, first_rects, phase_after, lines_after, lines_of, application_in, part_in, parts_in, reached, held_in, held_after, turns_after}
 use Rattle.tk_host.specs.Refusals.{PhaseRefuses}
 use Rattle.tk_host.specs.Sections.{EachByItself, sections_after}

@@ -8,17 +8,19 @@ use Rattle.tk_route.specs.Routes.{events_of, routes}
 use Rattle.tk_route.specs.Values.{Values}
 use Rattle.tk_route.specs.declared.delivery.Delivery.{Delivery}
 use Rattle.tk_app.specs.Rounds.{turns_of}
-use Rattle.tk_app.specs.Stages.{IsPast, earlier, first_moment_due}
+use Rattle.tk_app.specs.Stages.{earlier, first_moment_due}
+use Rattle.tk_app.specs.Due.{IsPast}
 use Rattle.tk_app.proofs.Stages.{both_past, past_both}
 use Rattle.tk_app.specs.Application.{Application, next_due}
-use Rattle.tk_app.specs.Moments.{delivered, settled}
+use Rattle.tk_app.specs.Moments.{delivered}
+use Rattle.tk_app.specs.MomentsByJob.{settled}
 use Rattle.tk_app.specs.Part.{Part, added, needs, stage_done}
 use Rattle.tk_app.specs.Seen.{Meaning}
 use Rattle.tk_app.specs.Spec.{Spec}
 use Rattle.tk_app.specs.Turns.{Applications}
 use Rattle.tk_host.specs.declared.phase.Phase.{Phase}
 use Rattle.tk_host.specs.declared.phase.Phase.TheVariants.{Adding, Reached, Finished, Lost}
-use Rattle.tk_host.specs.Alone.{passed}
+use Rattle.tk_host.specs.AloneByJob.{passed}
 use Rattle.tk_host.specs.Held.{Hosted, after_line, after_start, at_rest, with_passed, gone_to, known_by, with_app}
 use Rattle.tk_host.specs.Spec.{Given, rect_of}
 use Rattle.tk_host.specs.Ready.{AllRest, IsAt, IsReady, IsRouted}

@@ -1,14 +1,15 @@
 -- Parts at rest, and after a stage.
 use Rattle.std.proofs.Common.{◌≡◌, ◌-◌, ℕ, Bool, true, false, List, [], ◌∷◌, ◌++◌, map, Option, Some, None, refl, sym, ap, ◌∙◌, subst}
 use Rattle.std.specs.Prelude.{nat_eq, if◌then◌else◌}
-use Rattle.tk_app.specs.Stages.{IsPast, first_moment_due, settled_if, settled_if_due_at, stage_at, used_at}
+use Rattle.tk_app.specs.Stages.{first_moment_due, stage_at, used_at}
+use Rattle.tk_app.specs.Due.{IsPast, settled_if, settled_if_due_at}
 use Rattle.tk_app.proofs.Stages.{past_both}
 use Rattle.tk_app.specs.Application.{Application, fresh, next_due}
-use Rattle.tk_app.specs.Moments.{settled, started}
+use Rattle.tk_app.specs.MomentsByJob.{settled, started}
 use Rattle.tk_app.specs.Part.{Part, Work, Rests, added, done_as, needs, settling_begun, stage_done}
 use Rattle.tk_app.specs.Spec.{Spec}
 use Rattle.tk_app.proofs.Parts.{settles_from_rest, begins_with_script}
-use Rattle.tk_host.specs.Alone.{passed}
+use Rattle.tk_host.specs.AloneByJob.{passed}
 use Rattle.tk_host.specs.Held.{at_rest, with_passed}
 use Rattle.tk_host.specs.Ready.{AllAdded, AllRest}
 use Rattle.tk_host.specs.Slots.{begun_by, begun_at}

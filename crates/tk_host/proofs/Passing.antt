@@ -4,15 +4,17 @@ use Rattle.std.specs.Prelude.{sum_by, nat_eq, nat_le, if◌then◌else◌}
 use Rattle.std.proofs.lemmas.Bool.{eqb-false, eqb-true, leb-false}
 use Rattle.tk_app.specs.Passing.{on_next, pass}
 use Rattle.tk_app.specs.declared.turns.Turn.{Turn}
-use Rattle.tk_app.specs.Stages.{IsPast, first_moment_due, settled_if, stage_at, turns_at, used_at}
+use Rattle.tk_app.specs.Stages.{first_moment_due, stage_at, turns_at, used_at}
+use Rattle.tk_app.specs.Due.{IsPast, settled_if}
 use Rattle.tk_app.specs.Together.{turns_to}
 use Rattle.tk_app.proofs.Passing.{brought_brought, brought_late, brought_none, brought_step}
 use Rattle.tk_app.proofs.Rounds.{sum-cons, turns_none}
 use Rattle.tk_app.proofs.Settled.{settled_is_past}
 use Rattle.tk_app.proofs.Stages.{IsFrom, all_at, all_past, both_past, brought_past, past_both, stage_lighter, stage_past, told_in_two, told_past, told_step}
 use Rattle.tk_app.specs.Application.{Application, next_due}
-use Rattle.tk_app.specs.Moments.{settled}
-use Rattle.tk_host.specs.Alone.{at_moment, passed, passed_by}
+use Rattle.tk_app.specs.MomentsByJob.{settled}
+use Rattle.tk_host.specs.Alone.{passed_by}
+use Rattle.tk_host.specs.AloneByJob.{at_moment, passed}
 use Rattle.tk_host.specs.Dues.{PassedByDues, TurnsByDues, brought_by_dues, weight}
 use Rattle.tk_host.specs.Turns.{steps_left, turns_on_the_way}
 use Rattle.tk_host.proofs.Settling.{settled_lighter}

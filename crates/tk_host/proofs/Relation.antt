@@ -3,10 +3,10 @@ use Rattle.std.proofs.Common.{◌≡◌, ℕ, zero, suc, ◌≤◌, Bool, true, 
 use Rattle.std.specs.Prelude.{nat_le, if◌then◌else◌}
 use Rattle.std.proofs.lemmas.Bool.{leb-true, leb-false}
 use Rattle.tk_app.specs.Application.{Application, next_due}
-use Rattle.tk_app.specs.Moments.{settled}
+use Rattle.tk_app.specs.MomentsByJob.{settled}
 use Rattle.tk_app.specs.Passing.{on_next, pass}
 use Rattle.tk_app.specs.Seen.{Meaning}
-use Rattle.tk_app.specs.Stages.{IsPast}
+use Rattle.tk_app.specs.Due.{IsPast}
 use Rattle.tk_app.proofs.Passing.{brought_step}
 use Rattle.tk_app.proofs.Stages.{brought_past}
 use Rattle.tk_host.specs.Dues.{brought_by_dues, weight}

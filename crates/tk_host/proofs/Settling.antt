@@ -4,7 +4,7 @@ use Rattle.std.proofs.lemmas.Option.{none-some}
 use Rattle.tk_app.specs.declared.state.AppState.{AppState}
 use Rattle.tk_app.specs.declared.state.AppState.TheVariants.{Running, Exhausted, Closed}
 use Rattle.tk_app.specs.Application.{Application, next_due, next_due_as}
-use Rattle.tk_app.specs.Moments.{settled}
+use Rattle.tk_app.specs.MomentsByJob.{settled}
 use Rattle.tk_app.specs.Seen.{Meaning}
 use Rattle.tk_app.proofs.Settled.{due_takes_a_step}
 use Rattle.tk_host.specs.Dues.{weight_as, weight}

@@ -11,7 +11,7 @@ use Rattle.tk_app.specs.declared.state.AppEnd.TheVariants.{Settled, More, Stoppe
 use Rattle.tk_app.specs.declared.state.AppState.{AppState}
 use Rattle.tk_app.specs.declared.state.AppState.TheVariants.{Running, Exhausted, Closed}
 use Rattle.tk_app.specs.Application.{next_due}
-use Rattle.tk_app.specs.Moments.{settled}
+use Rattle.tk_app.specs.MomentsByJob.{settled}
 use Rattle.tk_app.specs.Part.{Part, Work, Rests, done_as, is_under_way, needs, settling_as, settling_begun, stage_done}
 use Rattle.tk_app.specs.Turns.{Applications, SettlesSlot}
 use Rattle.tk_host.specs.Slots.{TakesTurn}

@@ -9,15 +9,17 @@ use Rattle.tk_base.specs.declared.local_event.LocalEvent.{LocalEvent}
 use Rattle.tk_app.specs.declared.state.AppState.{AppState}
 use Rattle.tk_app.specs.declared.state.AppState.TheVariants.{Running, Exhausted, Closed}
 use Rattle.tk_app.specs.Application.{Application, fresh, next_due}
-use Rattle.tk_app.specs.Moments.{after_outcome, delivered, delivered_as, settled, settled_as, settled_by, started, started_by}
+use Rattle.tk_app.specs.Moments.{after_outcome, delivered, delivered_as, settled_as, settled_by, started_by}
+use Rattle.tk_app.specs.MomentsByJob.{settled, started}
 use Rattle.tk_app.specs.Part.{Part, Rests, added, settling_begun}
 use Rattle.tk_app.specs.Seen.{Meaning, Seen}
-use Rattle.tk_app.specs.Settle.{settle_meaning}
+use Rattle.tk_app.specs.SettleJob.{settle_meaning}
 use Rattle.tk_app.specs.Spec.{Spec}
-use Rattle.tk_app.specs.Stages.{settled_if}
+use Rattle.tk_app.specs.Due.{settled_if}
 use Rattle.tk_app.proofs.Parts.{begins_with_script, settles_from_rest}
 use Rattle.tk_app.proofs.Slices.{done_within}
-use Rattle.tk_host.specs.Alone.{after_events, alone, at_moment, passed, passed_by}
+use Rattle.tk_host.specs.Alone.{passed_by}
+use Rattle.tk_host.specs.AloneByJob.{after_events, alone, at_moment, passed}
 use Rattle.tk_host.specs.Used.{AllWithin, UsedAndLeft, before_event, granted_to, used, used_for}
 
 -- the budget stays, and steps only fall

@@ -4,13 +4,14 @@ use Rattle.std.specs.Prelude.{nat_eq, slice_get, option_map, sum_by, ifâ—Œthenâ—
 use Rattle.std.proofs.lemmas.Bool.{eqb-true}
 use Rattle.std.proofs.lemmas.List.Edits.{map_over_more}
 use Rattle.tk_app.specs.Rounds.{turns_of}
-use Rattle.tk_app.specs.Stages.{IsPast, first_moment_due, stage_at, turns_at}
+use Rattle.tk_app.specs.Stages.{first_moment_due, stage_at, turns_at}
+use Rattle.tk_app.specs.Due.{IsPast}
 use Rattle.tk_app.proofs.Stages.{IsFrom, stage_past}
 use Rattle.tk_app.specs.Application.{Application, next_due}
-use Rattle.tk_app.specs.Moments.{settled}
+use Rattle.tk_app.specs.MomentsByJob.{settled}
 use Rattle.tk_app.specs.Part.{Part, needs, settling_begun, stage_done}
 use Rattle.tk_app.specs.Turns.{Applications, BeginsIn}
-use Rattle.tk_host.specs.Alone.{passed}
+use Rattle.tk_host.specs.AloneByJob.{passed}
 use Rattle.tk_host.specs.Dues.{weight}
 use Rattle.tk_host.specs.Held.{at_rest}
 use Rattle.tk_host.specs.Ready.{AllRest}

@@ -5,9 +5,8 @@ use Rattle.tk_app.specs.Application.{Application, fresh, next_due}
 use Rattle.tk_app.specs.Dispatch.{Continuation}
 use Rattle.tk_app.specs.Moments.{delivered, settled_by, started_by}
 use Rattle.tk_app.specs.Seen.{Meaning}
-use Rattle.tk_app.specs.Settle.{settle_meaning}
 use Rattle.tk_app.specs.Spec.{Spec}
-use Rattle.tk_app.specs.Stages.{settled_if_due_at}
+use Rattle.tk_app.specs.Due.{settled_if_due_at}
 
 module _ {M : Type 0} (answer : M → Meaning) where
   -- by what *Settle* is
@@ -35,19 +34,3 @@ module _ {M : Type 0} (answer : M → Meaning) where
     -- And last come the moments up to the last.
     abbrev pub alone_by : Spec M → List LocalEvent → ℕ → Application M
     alone_by spec routed last = passed_by last (after_events_by spec routed)
-
-  -- *Settle* is what its job comes to. By anything else that meets its equation all of this is the same (`AloneBySettle`, `PassedBySettle`).
-  abbrev pub at_moment : ℕ → Application M → Application M
-  at_moment = at_moment_by settle_meaning
-
-  abbrev pub passed : ℕ → Application M → Application M
-  passed = passed_by settle_meaning
-
-  abbrev pub after_event : LocalEvent → Application M → Application M
-  after_event = after_event_by settle_meaning
-
-  abbrev pub after_events : Spec M → List LocalEvent → Application M
-  after_events = after_events_by settle_meaning
-
-  abbrev pub alone : Spec M → List LocalEvent → ℕ → Application M
-  alone = alone_by settle_meaning

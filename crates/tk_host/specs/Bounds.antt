@@ -8,10 +8,11 @@ use Rattle.tk_app.specs.Rounds.{turns_of}
 use Rattle.tk_app.specs.Shares.{steps_in}
 use Rattle.tk_app.specs.Stages.{turns_at}
 use Rattle.tk_app.specs.Application.{Application, next_due}
-use Rattle.tk_app.specs.Moments.{delivered, settled}
+use Rattle.tk_app.specs.Moments.{delivered}
+use Rattle.tk_app.specs.MomentsByJob.{settled}
 use Rattle.tk_app.specs.Part.{Part}
 use Rattle.tk_app.specs.Seen.{Meaning}
-use Rattle.tk_host.specs.Alone.{after_event}
+use Rattle.tk_host.specs.AloneByJob.{after_event}
 use Rattle.tk_host.specs.Turns.{stages_of, steps_given, steps_left, turns_at_start}
 
 -- no slot is given more than one event of a stage

@@ -7,7 +7,8 @@ use Rattle.tk_app.specs.Seen.{Meaning}
 use Rattle.tk_app.specs.Settle.{IsSettle}
 use Rattle.tk_app.specs.Sound.{RunsSound}
 use Rattle.tk_app.specs.Spec.{Spec}
-use Rattle.tk_host.specs.Alone.{alone, alone_by, passed, passed_by}
+use Rattle.tk_host.specs.Alone.{alone_by, passed_by}
+use Rattle.tk_host.specs.AloneByJob.{alone, passed}
 
 module _ {M : Type 0} (answer : M → Meaning) where
   -- An application by itself comes to the same by anything that meets the equation of *Settle*: the first item that exists, and *Settle* again.

@@ -5,9 +5,9 @@ use Rattle.tk_app.specs.Together.{turns_to}
 use Rattle.tk_app.specs.declared.state.AppState.{AppState}
 use Rattle.tk_app.specs.declared.state.AppState.TheVariants.{Running, Exhausted, Closed}
 use Rattle.tk_app.specs.Application.{Application, next_due}
-use Rattle.tk_app.specs.Moments.{settled}
+use Rattle.tk_app.specs.MomentsByJob.{settled}
 use Rattle.tk_app.specs.Seen.{Meaning}
-use Rattle.tk_host.specs.Alone.{passed}
+use Rattle.tk_host.specs.AloneByJob.{passed}
 use Rattle.tk_host.specs.Turns.{steps_left, turns_on_the_way}
 
 -- How many moments an application can still have at most: each takes a step, or is the last.

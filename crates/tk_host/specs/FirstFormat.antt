@@ -5,10 +5,10 @@ use Rattle.tk_panel.specs.Deliver.{delivered_panel}
 use Rattle.tk_app.specs.declared.state.AppState.{AppState}
 use Rattle.tk_app.specs.declared.state.AppState.TheVariants.{Running, Exhausted, Closed}
 use Rattle.tk_app.specs.Application.{Application, fresh, panel_at, with_panel}
-use Rattle.tk_app.specs.Moments.{settled, started}
+use Rattle.tk_app.specs.MomentsByJob.{settled, started}
 use Rattle.tk_app.specs.Seen.{Meaning}
 use Rattle.tk_app.specs.Spec.{Spec}
-use Rattle.tk_host.specs.Alone.{alone, passed}
+use Rattle.tk_host.specs.AloneByJob.{alone, passed}
 
 -- an event is given to an application that runs, and grants it no step
 abbrev pub given_as : {M : Type 0} → AppState → LocalEvent → Application M → Application M

@@ -15,7 +15,7 @@ use Rattle.tk_app.specs.Spec.{Spec}
 use Rattle.tk_host.specs.declared.phase.Phase.{Phase}
 use Rattle.tk_host.specs.declared.phase.Phase.TheVariants.{Adding, Reached, Finished, Lost}
 use Rattle.tk_host.specs.Spec.{Given, rect_of}
-use Rattle.tk_host.specs.Alone.{passed, alone}
+use Rattle.tk_host.specs.AloneByJob.{passed, alone}
 use Rattle.tk_host.specs.Turns.{after_given, applications, stages_of, steps_at_start, turns_at_start, turns_given, turns_on_the_way}
 
 -- A host: how far it has come, what it knows of the screen and the keyboard, with the applications' rectangles by their slots, and the applications,

@@ -1,5 +1,6 @@
 -- What the contracts cite.
 pub mod Alone
+pub mod AloneByJob
 pub mod Bounds
 pub mod BySettle
 pub mod Cut

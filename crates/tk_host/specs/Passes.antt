@@ -1,10 +1,10 @@
 -- Meaning. How an application comes to a moment, as a relation. *Alone* lets every moment come; here those alone come at which something is due.
 use Rattle.std.specs.Prelude.{◌≡◌, ◌≤◌, ◌↔◌, ℕ, Option, Some}
 use Rattle.tk_app.specs.Application.{Application, next_due}
-use Rattle.tk_app.specs.Moments.{settled}
+use Rattle.tk_app.specs.MomentsByJob.{settled}
 use Rattle.tk_app.specs.Seen.{Meaning}
-use Rattle.tk_app.specs.Stages.{IsPast}
-use Rattle.tk_host.specs.Alone.{passed}
+use Rattle.tk_app.specs.Due.{IsPast}
+use Rattle.tk_host.specs.AloneByJob.{passed}
 
 -- `next_due` says when something is due next, and `settled` what is left once what is to be done at a moment is done. Where nothing is due by the last
 -- moment, it is reached. Else what is due next is done at its moment, and it goes on from there.

@@ -5,9 +5,10 @@ use Rattle.tk_route.specs.Limits.{most_applications}
 use Rattle.tk_route.specs.Lines.{Line, values}
 use Rattle.tk_route.specs.Screen.{are_apart}
 use Rattle.tk_route.specs.Values.{Values}
-use Rattle.tk_app.specs.Stages.{IsPast, first_moment_due}
+use Rattle.tk_app.specs.Stages.{first_moment_due}
+use Rattle.tk_app.specs.Due.{IsPast}
 use Rattle.tk_app.specs.Application.{next_due}
-use Rattle.tk_app.specs.Moments.{settled}
+use Rattle.tk_app.specs.MomentsByJob.{settled}
 use Rattle.tk_app.specs.Part.{Part, Rests, added}
 use Rattle.tk_app.specs.Seen.{Meaning}
 use Rattle.tk_app.specs.Spec.{Spec}

@@ -8,11 +8,12 @@ use Rattle.tk_app.specs.declared.turns.Turn.{Turn}
 use Rattle.tk_app.specs.Rounds.{turns_of}
 use Rattle.tk_app.specs.Stages.{turns_at}
 use Rattle.tk_app.specs.Application.{Application, fresh, next_due}
-use Rattle.tk_app.specs.Moments.{delivered, settled, started}
+use Rattle.tk_app.specs.Moments.{delivered}
+use Rattle.tk_app.specs.MomentsByJob.{settled, started}
 use Rattle.tk_app.specs.Part.{Part, needs}
 use Rattle.tk_app.specs.Seen.{Meaning}
 use Rattle.tk_app.specs.Spec.{Spec}
-use Rattle.tk_host.specs.Alone.{after_event, passed}
+use Rattle.tk_host.specs.AloneByJob.{after_event, passed}
 
 -- The stages of what a line gives: one for the events of different applications; a second event of the same application is a stage of its own.
 abbrev pub joined : Delivery → List (List Delivery) → List (List Delivery)

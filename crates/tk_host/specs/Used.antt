@@ -3,10 +3,11 @@ use Rattle.std.specs.Prelude.{◌≡◌, ℕ, ◌+◌, ◌-◌, ◌*◌, ◌≤�
 use Rattle.std.specs.List.{enumerate_from}
 use Rattle.tk_base.specs.declared.local_event.LocalEvent.{LocalEvent}
 use Rattle.tk_app.specs.Application.{Application, fresh}
-use Rattle.tk_app.specs.Moments.{delivered, started}
+use Rattle.tk_app.specs.Moments.{delivered}
+use Rattle.tk_app.specs.MomentsByJob.{started}
 use Rattle.tk_app.specs.Seen.{Meaning}
 use Rattle.tk_app.specs.Spec.{Spec}
-use Rattle.tk_host.specs.Alone.{after_events, alone, passed}
+use Rattle.tk_host.specs.AloneByJob.{after_events, alone, passed}
 
 -- how many steps fewer an application has left
 abbrev pub fewer : {M : Type 0} → Application M → Application M → ℕ

@@ -2,12 +2,13 @@
 
 ghost use Rattle.std.specs.Prelude.{◌≡◌, ◌-◌, ◌≤◌, ◌<◌, ◌++◌, ℕ, map, length, true, false, Ok, OnOk, OnErr, IfOk, sum_by};
 ghost use Rattle.tk_app.specs.Rounds.{one_turn, round, turns_of};
-ghost use Rattle.tk_app.specs.Stages.{IsPast, first_moment_due};
+ghost use Rattle.tk_app.specs.Stages.{first_moment_due};
+ghost use Rattle.tk_app.specs.Due.{IsPast};
 ghost use Rattle.tk_app.specs.Application.{next_due};
-ghost use Rattle.tk_app.specs.Moments.{settled};
+ghost use Rattle.tk_app.specs.MomentsByJob.{settled};
 ghost use Rattle.tk_app.specs.Part.{needs, stage_done};
 ghost use Rattle.tk_app.specs.Turns.{BeginsIn};
-ghost use Rattle.tk_host.specs.Alone.{passed};
+ghost use Rattle.tk_host.specs.AloneByJob.{passed};
 ghost use Rattle.tk_host.specs.Cut.{IsCutShort};
 ghost use Rattle.tk_host.specs.Ready.{AllRest};
 ghost use Rattle.tk_host.specs.Slots.{BeginsAt, CountsAll, TakesTurn, begun_at};

@@ -9,7 +9,7 @@ use Rattle.tk_inputs.specs.declared.delivery.KeyLine.{KeyLine}
 use Rattle.tk_inputs.specs.declared.events.PointerLine.{PointerLine}
 use Rattle.tk_inputs.specs.declared.inputs.Input.{Input}
 use Rattle.tk_inputs.specs.Events.{key_event, plain_event, pointer_event}
-use Rattle.tk_inputs.specs.Inputs as inputs_of
+use Rattle.tk_inputs.specs.Shared as inputs_of
 use Rattle.tk_inputs.specs.declared.pointer_event.PointerEvent.{PointerEvent}
 use Rattle.tk_inputs.specs.declared.pointer.Pointer.{Pointer}
 use Rattle.tk_inputs.specs.Pointer.{moved, moved_told, pressed, pressed_told, released, released_told}

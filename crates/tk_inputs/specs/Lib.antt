@@ -5,3 +5,4 @@ pub mod Events
 pub mod Focus
 pub mod Inputs
 pub mod Pointer
+pub mod Shared

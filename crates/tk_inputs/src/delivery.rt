@@ -2,9 +2,9 @@
 ghost use Rattle.std.specs.Prelude.{◌≡◌, ◌++◌, true, false, IfOk, OnOk};
 ghost use Rattle.std.specs.List.{flat_map};
 ghost use Rattle.tk_inputs.specs.Deliver as spec;
-ghost use Rattle.tk_inputs.specs.Inputs as inputs_of;
+ghost use Rattle.tk_inputs.specs.Shared as inputs_of;
 ghost use Rattle.tk_dispatch.specs.Queue as queue_of;
-ghost use Rattle.tk_tree.specs.Own as tree_of;
+ghost use Rattle.tk_tree.specs.Shared as tree_of;
 
 use crate::PointerEvent;
 use crate::events::{PointerLine, key_event, plain_event, pointer_event};

@@ -3,9 +3,9 @@ ghost use Rattle.std.specs.Prelude.{◌≡◌, [], ◌∷◌, IfOk, OnOk, Ok};
 ghost use Rattle.tcl_text.specs.Answers.{Gives};
 ghost use Rattle.tk_inputs.specs.Deliver.{arrivals_of};
 ghost use Rattle.tk_inputs.specs.Focus as spec;
-ghost use Rattle.tk_inputs.specs.Inputs as inputs_of;
+ghost use Rattle.tk_inputs.specs.Shared as inputs_of;
 ghost use Rattle.tk_dispatch.specs.Queue as queue_of;
-ghost use Rattle.tk_tree.specs.Own as tree_of;
+ghost use Rattle.tk_tree.specs.Shared as tree_of;
 
 use crate::delivery::queue_plain;
 use crate::inputs::Inputs;

@@ -1,6 +1,7 @@
 ghost use Rattle.std.specs.Prelude.{◌≡◌, [], Some, None, IfOk, OnOk, OnErr};
 ghost use Rattle.std.specs.Option.{option_copied};
-ghost use Rattle.tk_inputs.specs.Inputs.{fresh, left_by, own_of, put_away, without_window, LeavesAll, LeavesOthers};
+ghost use Rattle.tk_inputs.specs.Inputs.{fresh, left_by, put_away, without_window};
+ghost use Rattle.tk_inputs.specs.Shared.{own_of, LeavesAll, LeavesOthers};
 
 use crate::Pointer;
 use std::alloc::{AllocError, Global};
@@ -35,7 +36,7 @@ pub struct Inputs {
 }
 
 impl Model for Inputs {
-    ghost use Rattle.tk_inputs.specs.Inputs.{Held};
+    ghost use Rattle.tk_inputs.specs.Shared.{Held};
 
     ghost Value = { Held };
 

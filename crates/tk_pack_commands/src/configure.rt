@@ -2,8 +2,8 @@
 ghost use Rattle.std.specs.Prelude.{◌≡◌, IfOk};
 ghost use Rattle.tcl_text.specs.Answers.{Gives};
 ghost use Rattle.tk_pack_commands.specs.Pack as spec;
-ghost use Rattle.tk_packer.specs.Packs.{own_of as packs_of, LeavesOthers};
-ghost use Rattle.tk_tree.specs.Own.{own_of};
+ghost use Rattle.tk_packer.specs.Shared.{own_of as packs_of, LeavesOthers};
+ghost use Rattle.tk_tree.specs.Shared.{own_of};
 
 use crate::options::settings_in;
 use crate::pack::PACK_USAGE;

@@ -4,7 +4,7 @@ ghost use Rattle.std.specs.Fmt.{decimal};
 ghost use Rattle.tcl_text.specs.Answers.{Gives};
 ghost use Rattle.tk_pack_commands.specs.Info as spec;
 ghost use Rattle.tk_pack_commands.specs.Values.{side_word, anchor_word, fill_word};
-ghost use Rattle.tk_tree.specs.Own.{own_of};
+ghost use Rattle.tk_tree.specs.Shared.{own_of};
 
 use crate::errors::not_packed;
 use itoa::Buffer;

@@ -4,8 +4,8 @@ ghost use Rattle.std.specs.List.{list_all};
 ghost use Rattle.tcl_text.specs.Answers.{Gives};
 ghost use Rattle.tk_pack_commands.specs.Given.{GivesItems};
 ghost use Rattle.tk_pack_commands.specs.Options as spec;
-ghost use Rattle.tk_packer.specs.Packs.{own_of as packs_of};
-ghost use Rattle.tk_tree.specs.Own.{own_of};
+ghost use Rattle.tk_packer.specs.Shared.{own_of as packs_of};
+ghost use Rattle.tk_tree.specs.Shared.{own_of};
 
 use crate::errors::{bad_value, no_value, not_packed, not_sibling, unknown_option};
 use crate::scene::Scene;

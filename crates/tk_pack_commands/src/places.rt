@@ -2,7 +2,8 @@
 ghost use Rattle.std.specs.Prelude.{◌≡◌, ◌≤◌, length, OnOk, IsOk, None};
 ghost use Rattle.tk_pack_commands.specs.Options.{last_sibling};
 ghost use Rattle.tk_pack_commands.specs.Places as spec;
-ghost use Rattle.tk_packer.specs.Packs.{own_of, without, LeavesOthers};
+ghost use Rattle.tk_packer.specs.Packs.{without};
+ghost use Rattle.tk_packer.specs.Shared.{own_of, LeavesOthers};
 
 use crate::settings::{Beside, PackSetting, last_sibling, with_settings};
 use crate::targets::Target;

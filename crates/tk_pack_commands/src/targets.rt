@@ -4,7 +4,8 @@ ghost use Rattle.std.specs.List.{position_or_len};
 ghost use Rattle.tcl_text.specs.Answers.{Gives};
 ghost use Rattle.tk_pack_commands.specs.Given.{GivesItems};
 ghost use Rattle.tk_pack_commands.specs.Targets as spec;
-ghost use Rattle.tk_tree.specs.Own.{own_of, at_path};
+ghost use Rattle.tk_tree.specs.Own.{at_path};
+ghost use Rattle.tk_tree.specs.Shared.{own_of};
 
 use crate::errors::is_top_level;
 use std::alloc::Global;

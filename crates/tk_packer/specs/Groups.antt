@@ -1,7 +1,8 @@
 -- Steps. Packed windows by their masters.
 use Rattle.std.specs.Prelude.{ℕ, List}
 use Rattle.tk_packer.specs.declared.packed.Packed.{Packed}
-use Rattle.tk_packer.specs.Packs.{Held, own_of, slaves_of}
+use Rattle.tk_packer.specs.Packs.{slaves_of}
+use Rattle.tk_packer.specs.Shared.{Held, own_of}
 
 -- the slaves of a master among what an application has packed
 abbrev pub slaves_in : ℕ → Held → ℕ → List Packed

@@ -9,4 +9,5 @@ pub mod Layout
 pub mod Loops
 pub mod Packs
 pub mod Parcels
+pub mod Shared
 pub mod Tables

@@ -1,9 +1,7 @@
 -- Meaning. The packed windows: those of one application in one list, master by master in the rising order of the masters' numbers, the slaves of each
 -- in their order.
-use Rattle.std.specs.Prelude.{◌≡◌, ◌≢◌, ℕ, Bool, ◌==◌, nat_eq, nat_lt, not, if◌then◌else◌, List, [], ◌∷◌, ◌++◌, map, filter, find, insert, Option, option_map}
+use Rattle.std.specs.Prelude.{ℕ, Bool, ◌==◌, nat_lt, not, if◌then◌else◌, List, [], ◌∷◌, ◌++◌, map, filter, find, insert, Option, option_map}
 use Rattle.std.specs.List.{list_any}
-use Rattle.std.specs.Map.{lookup}
-use Rattle.std.specs.Option.{option_map_or}
 use Rattle.tk_base.specs.declared.win.Win.{Win}
 use Rattle.tk_packer.specs.declared.packed.Packed.{Packed}
 use Rattle.tk_packer.specs.declared.request.Request.{Request}
@@ -83,17 +81,3 @@ with_propagation number propagates own = record own { rigid = rigid_after number
 -- a window that is gone is packed nowhere, and nothing is said of it
 abbrev pub without_window : ℕ → Packing → Packing
 without_window number own = record { packs = without number own.packs; rigid = without_number number own.rigid }
-
--- ---- all applications
-
--- what each application has, by its number
-abbrev pub Held : Type 0
-Held = List (ℕ × Packing)
-
--- what one application has in a table
-abbrev pub own_of : ℕ → Held → Packing
-own_of owner held = option_map_or (λ own. own) (lookup (nat_eq owner) held) no_packs
-
--- every application but one has what it had
-abbrev pub LeavesOthers : ℕ → Held → Held → Type 0
-LeavesOthers owner old new = (other : ℕ) → other ≢ owner → own_of other new ≡ own_of other old

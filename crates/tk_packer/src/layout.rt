@@ -3,7 +3,8 @@ ghost use Rattle.std.specs.Map.{lookup};
 ghost use Rattle.tk_packer.specs.Asked.{sizes_asked};
 ghost use Rattle.tk_packer.specs.Changes.{changes_of};
 ghost use Rattle.tk_packer.specs.Layout.{layout};
-ghost use Rattle.tk_packer.specs.Packs.{own_of, slaves_of};
+ghost use Rattle.tk_packer.specs.Packs.{slaves_of};
+ghost use Rattle.tk_packer.specs.Shared.{own_of};
 
 use crate::PackTable;
 use crate::arrangements::Arrangements;

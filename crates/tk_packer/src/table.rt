@@ -1,5 +1,6 @@
 ghost use Rattle.std.specs.Prelude.{◌≡◌, ◌≢◌, ℕ, [], insert, IfOk, OnOk, OnErr};
-ghost use Rattle.tk_packer.specs.Packs.{own_of, with_packed, without_packed, without_window, with_propagation, propagates_in, without, slaves_of, request_in, LeavesOthers, wins_of};
+ghost use Rattle.tk_packer.specs.Packs.{with_packed, without_packed, without_window, with_propagation, propagates_in, without, slaves_of, request_in, wins_of};
+ghost use Rattle.tk_packer.specs.Shared.{own_of, LeavesOthers};
 
 use crate::Request;
 use crate::own::OwnPacks;
@@ -18,7 +19,7 @@ pub struct PackTable {
 }
 
 impl Model for PackTable {
-    ghost use Rattle.tk_packer.specs.Packs.{Held};
+    ghost use Rattle.tk_packer.specs.Shared.{Held};
 
     ghost Value = { Held };
 

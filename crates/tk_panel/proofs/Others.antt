@@ -7,7 +7,7 @@ use Rattle.std.proofs.lemmas.Bool.{eqb-true, eqb-false}
 use Rattle.tk_dispatch.specs.Queue.{Held, LeavesOthers as LeavesQueue}
 use Rattle.tk_panel.specs.declared.tables.Tables.{Tables}
 use Rattle.tk_panel.specs.Others.{left_of, others_of}
-use Rattle.tk_panel.specs.Panel.{LeavesOthers, panel_of}
+use Rattle.tk_panel.specs.Shared.{LeavesOthers, panel_of}
 
 module _ {P : Type 0} (new old : ℕ → P) (slot : ℕ) where
   abbrev rest : ℕ → ℕ → List ℕ

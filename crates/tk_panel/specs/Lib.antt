@@ -13,5 +13,6 @@ pub mod Panel
 pub mod Removal
 pub mod Reports
 pub mod Settle
+pub mod Shared
 pub mod Start
 pub mod Transcript

@@ -3,7 +3,8 @@ use Rattle.std.specs.Prelude.{ℕ, List, ◌==◌, filter, map, not}
 use Rattle.std.specs.Borrow.{GName}
 use Rattle.std.specs.List.{range_with_len}
 use Rattle.tk_panel.specs.declared.tables.Tables.{Tables}
-use Rattle.tk_panel.specs.Panel.{Panel, panel_of}
+use Rattle.tk_panel.specs.Panel.{Panel}
+use Rattle.tk_panel.specs.Shared.{panel_of}
 
 -- what each of the 16 slots but one has
 unfoldable pub others_of : ℕ → Tables → List Panel

@@ -1,27 +1,8 @@
--- Meaning. What applications wrote, each by itself.
-use Rattle.std.specs.Prelude.{◌≡◌, ◌≢◌, ℕ, nat_eq, List, [], codes}
-use Rattle.std.specs.Option.{option_map_or}
-use Rattle.std.specs.Map.{lookup}
-use Rattle.tk_panel.specs.declared.transcript.Line.{Line}
+-- Meaning. How the streams of a transcript are called.
+use Rattle.std.specs.Prelude.{ℕ, List, codes}
 use Rattle.tk_panel.specs.declared.transcript.Stream.{Stream}
 use Rattle.tk_panel.specs.declared.transcript.Stream.TheVariants.{Out, Err}
 
 abbrev pub stream_name : Stream → List ℕ
 stream_name Out = codes "out"
 stream_name Err = codes "err"
-
--- the transcript of each application that has written
-abbrev pub Written : Type 0
-Written = List (ℕ × List Line)
-
--- the lines of one application, in order
-abbrev pub lines_of : ℕ → Written → List Line
-lines_of owner written = option_map_or (λ own. own) (lookup (nat_eq owner) written) []
-
--- every other application's are as before
-abbrev pub LeavesLines : ℕ → Written → Written → Type 0
-LeavesLines owner old new = (other : ℕ) → other ≢ owner → lines_of other new ≡ lines_of other old
-
--- every application's are as before
-abbrev pub LeavesAllLines : Written → Written → Type 0
-LeavesAllLines old new = (other : ℕ) → lines_of other new ≡ lines_of other old

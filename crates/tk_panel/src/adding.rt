@@ -1,9 +1,10 @@
 //! Applications that are added.
 ghost use Rattle.std.specs.Prelude.{◌≡◌, OnErr, OnOk, codes};
 ghost use Rattle.tk_panel.specs.Fresh.{fresh, nothing};
-ghost use Rattle.tk_panel.specs.Panel.{LeavesOthers, panel_of};
+ghost use Rattle.tk_panel.specs.Shared.{LeavesOthers, panel_of};
 ghost use Rattle.tk_base.specs.declared.kind.Kind.TheVariants.{Frame};
-ghost use Rattle.tk_screen.specs.Own as screens;
+ghost use Rattle.tk_screen.specs.Own as windowing;
+ghost use Rattle.tk_screen.specs.Shared as screens;
 ghost use Rattle.tk_widgets.specs.Sizes.{new_widget};
 
 use crate::tables::Tables;
@@ -47,8 +48,8 @@ fn show(
     name: &Text,
     size: (u32, u32),
 ) -> Result<(), AllocError>
-    requires { screens.own_of slot marked.old ≡ screens.nothing }
-    ensures own { OnOk result (screens.own_of slot marked.new ≡ screens.added name.now size) }
+    requires { screens.own_of slot marked.old ≡ windowing.nothing }
+    ensures own { OnOk result (screens.own_of slot marked.new ≡ windowing.added name.now size) }
     ensures others { screens.LeavesOthers slot marked.old marked.new }
     ensures err { OnErr result (screens.own_of slot marked.new ≡ screens.own_of slot marked.old) }
 {
@@ -64,8 +65,8 @@ fn show_main(
     name: &Text,
     size: (u32, u32),
 ) -> Result<(), AllocError>
-    requires { screens.own_of slot screen.old ≡ screens.nothing }
-    ensures own { OnOk result (screens.own_of slot screen.new ≡ screens.added name.now size) }
+    requires { screens.own_of slot screen.old ≡ windowing.nothing }
+    ensures own { OnOk result (screens.own_of slot screen.new ≡ windowing.added name.now size) }
     ensures others { screens.LeavesOthers slot screen.old screen.new }
     ensures err { OnErr result (screens.own_of slot screen.new ≡ screens.own_of slot screen.old) }
 {
@@ -86,8 +87,8 @@ fn show_main(
 
 /// The window `.` of an application that has none.
 fn make_main(alloc: Global, screen: &mut Screen, slot: usize) -> Result<(), AllocError>
-    requires { (screens.own_of slot screen.old).tree ≡ screens.no_windows }
-    ensures own { OnOk result (screens.own_of slot screen.new ≡ screens.with_made (codes ".") Frame (new_widget Frame) (screens.own_of slot screen.old)) }
+    requires { (screens.own_of slot screen.old).tree ≡ windowing.no_windows }
+    ensures own { OnOk result (screens.own_of slot screen.new ≡ windowing.with_made (codes ".") Frame (new_widget Frame) (screens.own_of slot screen.old)) }
     ensures others { screens.LeavesOthers slot screen.old screen.new }
     ensures err { OnErr result (screens.own_of slot screen.new ≡ screens.own_of slot screen.old) }
 {

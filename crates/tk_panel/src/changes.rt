@@ -1,7 +1,7 @@
 //! Layout, and the events that it queues (pack(n), bind(n)).
 ghost use Rattle.std.specs.Prelude.{◌≡◌, OnOk, IfOk};
 ghost use Rattle.tk_panel.specs.Changes.{configure_event, event_of, laid_out, number_of, in_pixels, window_event, with_event_of, with_events_of};
-ghost use Rattle.tk_panel.specs.Panel.{LeavesOthers, panel_of};
+ghost use Rattle.tk_panel.specs.Shared.{LeavesOthers, panel_of};
 
 use crate::tables::Tables;
 use std::alloc::AllocError;

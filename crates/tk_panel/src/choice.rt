@@ -1,7 +1,7 @@
 //! The scripts that an event runs (bind(n), bindtags(n)).
 ghost use Rattle.std.specs.Prelude.{◌≡◌, IfOk};
 ghost use Rattle.tk_panel.specs.Choice.{chosen, scripts_of};
-ghost use Rattle.tk_panel.specs.Panel.{LeavesOthers, panel_of};
+ghost use Rattle.tk_panel.specs.Shared.{LeavesOthers, panel_of};
 
 use crate::Scripts;
 use crate::report::write;

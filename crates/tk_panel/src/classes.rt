@@ -2,7 +2,8 @@
 ghost use Rattle.std.specs.Prelude.{◌≡◌, Ok, OnErr, OnOk, map};
 ghost use Rattle.tk_options.specs.Rows.{binding as binding_of};
 ghost use Rattle.tk_panel.specs.ClassBindings.{with_class, with_class_bindings, with_row, with_rows, with_sequence, without_class, without_class_bindings};
-ghost use Rattle.tk_patterns.specs.Own.{LeavesOthers, own_of, without_tag};
+ghost use Rattle.tk_patterns.specs.Own.{without_tag};
+ghost use Rattle.tk_patterns.specs.Shared.{LeavesOthers, own_of};
 
 use std::alloc::{AllocError, Global};
 use tcl_text::Text;

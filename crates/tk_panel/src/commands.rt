@@ -2,7 +2,7 @@
 ghost use Rattle.std.specs.Prelude.{◌≡◌, IfOk, codes};
 ghost use Rattle.tcl_text.specs.Answers.{wrong_args as wrong_args_of};
 ghost use Rattle.tk_panel.specs.Commands.{after_told, clock_words, milliseconds, put_to, puts_words, written};
-ghost use Rattle.tk_panel.specs.Panel.{LeavesOthers, panel_of};
+ghost use Rattle.tk_panel.specs.Shared.{LeavesOthers, panel_of};
 
 use crate::report::write;
 use crate::tables::Tables;

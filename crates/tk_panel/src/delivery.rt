@@ -1,7 +1,7 @@
 //! What lines of the session give an application.
 ghost use Rattle.std.specs.Prelude.{◌≡◌, OnOk};
 ghost use Rattle.tk_panel.specs.Deliver.{delivered_panel, with_rectangle};
-ghost use Rattle.tk_panel.specs.Panel.{LeavesOthers, panel_of};
+ghost use Rattle.tk_panel.specs.Shared.{LeavesOthers, panel_of};
 
 use crate::tables::Tables;
 use std::alloc::AllocError;

@@ -2,10 +2,11 @@
 ghost use Rattle.std.specs.Prelude.{◌≡◌, IfOk, OnOk};
 ghost use Rattle.tk_panel.specs.Destroy.{destroy_chosen, destroy_next, destroys, next_doomed, without_last};
 ghost use Rattle.tk_panel.specs.Removal.{all_dying, all_dying_in, destroy_event, doomed_by, marked, removed};
-ghost use Rattle.tk_panel.specs.Panel.{LeavesOthers, panel_of};
-ghost use Rattle.tk_screen.specs.Own as screens;
+ghost use Rattle.tk_panel.specs.Shared.{LeavesOthers, panel_of};
+ghost use Rattle.tk_screen.specs.Shared as screens;
 ghost use Rattle.tk_tree.specs.Change.{dying};
-ghost use Rattle.tk_tree.specs.Own.{own_of, window_at, with_change, LeavesOthers as LeavesWindows};
+ghost use Rattle.tk_tree.specs.Own.{window_at, with_change};
+ghost use Rattle.tk_tree.specs.Shared.{own_of, LeavesOthers as LeavesWindows};
 
 use crate::choice::choose;
 use crate::job::{Job, Rest};

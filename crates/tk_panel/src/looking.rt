@@ -1,7 +1,7 @@
 //! What comes next of a job.
 ghost use Rattle.std.specs.Prelude.{◌≡◌, IfOk};
 ghost use Rattle.tk_panel.specs.Next.{next, next_rest};
-ghost use Rattle.tk_panel.specs.Panel.{LeavesOthers, panel_of};
+ghost use Rattle.tk_panel.specs.Shared.{LeavesOthers, panel_of};
 
 use crate::destroy::destroy_next;
 use crate::job::{Job, Rest};

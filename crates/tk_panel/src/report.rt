@@ -1,6 +1,6 @@
 //! Lines of a transcript.
 ghost use Rattle.std.specs.Prelude.{◌≡◌, OnOk};
-ghost use Rattle.tk_panel.specs.Panel.{LeavesOthers, panel_of};
+ghost use Rattle.tk_panel.specs.Shared.{LeavesOthers, panel_of};
 ghost use Rattle.tk_panel.specs.Reports.{with_line};
 
 use crate::tables::Tables;

@@ -1,6 +1,6 @@
 //! What comes next at a moment: a queued event, a timer that is due, layout, or an idle script (after(n), update(n)).
 ghost use Rattle.std.specs.Prelude.{◌≡◌, IfOk};
-ghost use Rattle.tk_panel.specs.Panel.{LeavesOthers, panel_of};
+ghost use Rattle.tk_panel.specs.Shared.{LeavesOthers, panel_of};
 ghost use Rattle.tk_panel.specs.Settle.{after_layout, after_round, at_home, drained, idle_round, is_closed, is_due, queue_or_round, rounds_next, still_waiting, tasks, turn};
 
 use crate::changes::lay_out;

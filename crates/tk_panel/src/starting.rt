@@ -1,6 +1,6 @@
 //! What starts once its step is taken.
 ghost use Rattle.std.specs.Prelude.{◌≡◌, IfOk};
-ghost use Rattle.tk_panel.specs.Panel.{LeavesOthers, panel_of};
+ghost use Rattle.tk_panel.specs.Shared.{LeavesOthers, panel_of};
 ghost use Rattle.tk_panel.specs.Start.{idle_taken, start, start_rest, timer_taken, without_event};
 ghost use Rattle.tk_after.specs.Timers.{entry_with, first_due};
 

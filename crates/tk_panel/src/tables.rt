@@ -1,6 +1,6 @@
 ghost use Rattle.std.specs.Prelude.{◌≡◌, ℕ, IfOk};
 ghost use Rattle.tk_panel.specs.Fresh.{nothing};
-ghost use Rattle.tk_panel.specs.Panel.{panel_of};
+ghost use Rattle.tk_panel.specs.Shared.{panel_of};
 
 use crate::clock::Clock;
 use crate::transcript::Transcripts;

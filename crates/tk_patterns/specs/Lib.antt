@@ -11,6 +11,7 @@ pub mod Named
 pub mod Own
 pub mod Rests
 pub mod Same
+pub mod Shared
 pub mod Shown
 pub mod Specific
 pub mod Walk

@@ -1,27 +1,9 @@
 -- Meaning. One application's bindings, in the order of registration, and what calls do to them (bind(n)).
-use Rattle.std.specs.Prelude.{◌≡◌, ◌≢◌, ℕ, zero, suc, Bool, ◌&&◌, not, nat_le, nat_eq, List, [], ◌∷◌, ◌++◌, length, find, filter, map, Option, is_some, is_none, option_map, if◌then◌else◌}
-use Rattle.std.specs.Option.{option_map_or}
-use Rattle.std.specs.Map.{lookup}
+use Rattle.std.specs.Prelude.{ℕ, zero, suc, Bool, ◌&&◌, not, nat_le, List, [], ◌∷◌, ◌++◌, length, find, filter, map, Option, is_some, is_none, option_map, if◌then◌else◌}
 use Rattle.std.specs.Str.{bytes_eq}
 use Rattle.tk_patterns.specs.declared.binding.Binding.{Binding}
 use Rattle.tk_patterns.specs.Same.{same_sequence}
 use Rattle.tk_sequences.specs.declared.sequence.Sequence.{Sequence}
-
--- all applications' bindings
-abbrev pub Held : Type 0
-Held = List (ℕ × List Binding)
-
--- an application's
-abbrev pub own_of : ℕ → Held → List Binding
-own_of owner held = option_map_or (λ own. own) (lookup (nat_eq owner) held) []
-
--- every other application's are as before
-abbrev pub LeavesOthers : ℕ → Held → Held → Type 0
-LeavesOthers owner old new = (other : ℕ) → other ≢ owner → own_of other new ≡ own_of other old
-
--- every application's are as before
-abbrev pub LeavesAll : Held → Held → Type 0
-LeavesAll old new = (other : ℕ) → own_of other new ≡ own_of other old
 
 abbrev pub has_tag : List ℕ → Binding → Bool
 has_tag tag binding = bytes_eq binding.tag tag

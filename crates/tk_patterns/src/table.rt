@@ -1,6 +1,7 @@
 ghost use Rattle.std.specs.Prelude.{◌≡◌, [], Err, IfOk, OnOk, OnErr, IsOkUnless, MatchBool, IfSome};
 ghost use Rattle.std.specs.Option.{option_copied};
-ghost use Rattle.tk_patterns.specs.Own.{own_of, script_of, sequences_of, refuses, with_binding, without_binding, without_tag, LeavesOthers, LeavesAll};
+ghost use Rattle.tk_patterns.specs.Own.{script_of, sequences_of, refuses, with_binding, without_binding, without_tag};
+ghost use Rattle.tk_patterns.specs.Shared.{own_of, LeavesOthers, LeavesAll};
 ghost use Rattle.tk_patterns.specs.Winner.{winner};
 ghost use Rattle.tk_virtual.specs.Virtual.{meanings_of};
 
@@ -24,7 +25,7 @@ pub struct BindTable {
 }
 
 impl Model for BindTable {
-    ghost use Rattle.tk_patterns.specs.Own.{Held};
+    ghost use Rattle.tk_patterns.specs.Shared.{Held};
 
     ghost Value = { Held };
 

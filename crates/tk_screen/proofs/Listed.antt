@@ -6,7 +6,8 @@ use Rattle.std.proofs.lemmas.Grind.{flat_map-append}
 use Rattle.std.proofs.lemmas.List.{append-nil, get_or-map, length-map, take_more}
 use Rattle.std.proofs.lemmas.Bool.Decides.{nat_tests}
 use Rattle.tk_after.specs.declared.waiting.WaitingScript.{WaitingScript}
-use Rattle.tk_after.specs.Timers.{IsNumbered, entry_with, ids}
+use Rattle.tk_after.specs.Timers.{entry_with, ids}
+use Rattle.tk_after.specs.Shared.{IsNumbered}
 use Rattle.tk_after.proofs.Numbers.{id_at_least}
 
 -- each entry is the one with its number

@@ -8,7 +8,8 @@ use Rattle.tk_tree.specs.Own.{IsSound, Tree}
 use Rattle.tk_screen.specs.Placing.{with_changes}
 use Rattle.tk_screen.specs.declared.screen.Screen.{Screen}
 use Rattle.tk_screen.specs.Layout.{changes_due, laid_out_windowing}
-use Rattle.tk_screen.specs.Own.{Windowing, own_of, LeavesOthers}
+use Rattle.tk_screen.specs.Own.{Windowing}
+use Rattle.tk_screen.specs.Shared.{own_of, LeavesOthers}
 use Rattle.tk_screen.specs.declared.marks.Mark.{Mark}
 use Rattle.tk_screen.specs.declared.marks.Marks.{Marks}
 use Rattle.tk_screen.specs.Marks.{mark_of, LeavesOtherMarks}

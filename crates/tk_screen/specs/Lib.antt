@@ -10,6 +10,7 @@ pub mod Reading
 pub mod Reads
 pub mod Settled
 pub mod Shapes
+pub mod Shared
 pub mod Timers
 pub mod Tree
 pub mod Widgets

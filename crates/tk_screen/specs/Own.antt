@@ -1,37 +1,22 @@
--- Meaning. What one application has on the screen, and what all applications have.
-use Rattle.std.specs.Prelude.{◌≡◌, ◌≢◌, ℕ, nat_eq, List, [], ◌∷◌, Option, None, Some, option_map, codes}
-use Rattle.std.specs.HashMap.{get}
+-- Meaning. What one application has on the screen.
+use Rattle.std.specs.Prelude.{ℕ, List, [], ◌∷◌, Option, None, Some, option_map, codes}
 use Rattle.tk_base.specs.declared.kind.Kind.{Kind}
 use Rattle.tk_base.specs.declared.kind.Kind.TheVariants.{Frame}
-use Rattle.tk_packer.specs.Packs.{Packing, no_packs, own_of as packs_of, without_window as without_packs}
+use Rattle.tk_packer.specs.Packs.{Packing, no_packs, without_window as without_packs}
 use Rattle.tk_tree.specs.Create.{parent_number, with_window}
-use Rattle.tk_tree.specs.Own.{Tree, own_of as tree_of, without_window}
+use Rattle.tk_tree.specs.Own.{Tree, without_window}
 use Rattle.tk_widgets.specs.declared.widget.Widget.{Widget}
 use Rattle.tk_widgets.specs.Sizes.{new_widget}
-use Rattle.tk_screen.specs.Widgets.{OwnWidgets, widgets_of, with_widget, without_widget}
-use Rattle.tk_screen.specs.declared.screen.Screen.{Screen}
+use Rattle.tk_screen.specs.Widgets.{OwnWidgets, with_widget, without_widget}
 use Rattle.tk_screen.specs.declared.toplevel.Toplevel.{Toplevel}
 
--- one application's part: its windows and their next number, their widgets, what is packed in them, and its rectangle, name and title; none
+-- its windows and their next number, their widgets, what is packed in them, and its rectangle, name and title; none
 -- of the last before it is added
 pub record Windowing : Type 0 where
   pub tree : Tree
   pub widgets : OwnWidgets
   pub packs : Packing
   pub toplevel : Option Toplevel
-
--- an application's part
-abbrev pub own_of : ℕ → Screen → Windowing
-own_of slot screen = record {
-  tree = tree_of slot screen.windows;
-  widgets = widgets_of slot screen.widgets;
-  packs = packs_of slot screen.packs;
-  toplevel = get nat_eq screen.toplevels slot;
-}
-
--- every other application's part is as before
-abbrev pub LeavesOthers : ℕ → Screen → Screen → Type 0
-LeavesOthers slot old new = (other : ℕ) → other ≢ slot → own_of other new ≡ own_of other old
 
 -- ---- what calls do to one application's part
 

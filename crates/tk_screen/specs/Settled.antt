@@ -3,7 +3,8 @@ use Rattle.std.specs.Prelude.{◌≡◌, ℕ, true, [], Some}
 use Rattle.tcl_vars.specs.Store.{Store}
 use Rattle.tk_screen.specs.declared.screen.Screen.{Screen}
 use Rattle.tk_screen.specs.Layout.{changes_due}
-use Rattle.tk_screen.specs.Own.{Windowing, own_of}
+use Rattle.tk_screen.specs.Own.{Windowing}
+use Rattle.tk_screen.specs.Shared.{own_of}
 use Rattle.tk_screen.specs.declared.marks.Mark.{Mark}
 use Rattle.tk_screen.specs.declared.marks.Marks.{Marks}
 use Rattle.tk_screen.specs.Marks.{mark_of}

@@ -4,7 +4,7 @@ ghost use Rattle.std.specs.Option.{option_copied};
 ghost use Rattle.tcl_commands.specs.Done.{Steps};
 ghost use Rattle.tcl_vars.specs.Store.{variable_in};
 ghost use Rattle.tk_screen.specs.Changes.{changed, is_absent, wrote, wrote_one};
-ghost use Rattle.tk_screen.specs.Own.{own_of, LeavesOthers};
+ghost use Rattle.tk_screen.specs.Shared.{own_of, LeavesOthers};
 
 use crate::screen::Screen;
 use std::alloc::{AllocError, Global};

@@ -4,7 +4,7 @@ ghost use Rattle.std.specs.HashMap.{get};
 ghost use Rattle.tk_packer.specs.Changes.{changes_of};
 ghost use Rattle.tk_packer.specs.Layout.{layout};
 ghost use Rattle.tk_screen.specs.Layout.{changes_due, laid_out_windowing, size_asked, size_of};
-ghost use Rattle.tk_screen.specs.Own.{own_of, LeavesOthers};
+ghost use Rattle.tk_screen.specs.Shared.{own_of, LeavesOthers};
 ghost use Rattle.tk_screen.specs.Reads.{reads};
 
 use crate::reads::TextRead;

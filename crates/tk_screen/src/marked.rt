@@ -1,7 +1,8 @@
 ghost use Rattle.std.specs.Prelude.{◌≡◌, ℕ, [], true, IfOk, IsSome, OnErr, OnOk};
 ghost use Rattle.tk_screen.specs.Settled.{AllSettled};
 ghost use Rattle.tk_screen.specs.Layout.{changes_due, laid_out_windowing};
-ghost use Rattle.tk_screen.specs.Own.{own_of, nothing, with_size, without, LeavesOthers};
+ghost use Rattle.tk_screen.specs.Own.{nothing, with_size, without};
+ghost use Rattle.tk_screen.specs.Shared.{own_of, LeavesOthers};
 ghost use Rattle.tk_tree.specs.Own.{window_at, child_numbers};
 
 use crate::Screen;

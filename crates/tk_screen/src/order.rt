@@ -1,7 +1,7 @@
 //! The windows of an application in an order.
 ghost use Rattle.std.specs.Prelude.{◌≡◌, IfOk};
 ghost use Rattle.tk_screen.specs.Shapes.{pre_order};
-ghost use Rattle.tk_tree.specs.Own.{own_of as tree_of};
+ghost use Rattle.tk_tree.specs.Shared.{own_of as tree_of};
 
 use std::alloc::{AllocError, Global};
 use tk_base::Win;

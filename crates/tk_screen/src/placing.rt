@@ -1,6 +1,7 @@
 ghost use Rattle.std.specs.Prelude.{◌≡◌, IsSome};
 ghost use Rattle.tk_screen.specs.Placing.{with_mapped, with_rect, with_changed, with_changes, IsThere, AreThere};
-ghost use Rattle.tk_tree.specs.Own.{own_of, window_at, LeavesOthers};
+ghost use Rattle.tk_tree.specs.Own.{window_at};
+ghost use Rattle.tk_tree.specs.Shared.{own_of, LeavesOthers};
 
 use tk_base::{Rect, Win};
 use tk_packer::PlaceChange;

@@ -1,6 +1,7 @@
 ghost use Rattle.std.specs.Prelude.{◌≡◌, ◌≢◌, ℕ, [], None, Some, Ok, Err, IfOk, IfSome, IsSome, OnOk, OnErr, IsOkUnless, MatchOption, codes};
 ghost use Rattle.std.specs.Option.{option_copied};
-ghost use Rattle.tk_screen.specs.Own.{own_of, nothing, with_size, with_title, with_made, without, LeavesOthers};
+ghost use Rattle.tk_screen.specs.Own.{nothing, with_size, with_title, with_made, without};
+ghost use Rattle.tk_screen.specs.Shared.{own_of, LeavesOthers};
 ghost use Rattle.tk_screen.specs.Widgets.{widget_at};
 ghost use Rattle.tk_tree.specs.Create.{refusal};
 ghost use Rattle.tk_tree.specs.Own.{window_at, child_numbers};

@@ -1,7 +1,7 @@
 //! What a layout sees of an application.
 ghost use Rattle.std.specs.Prelude.{◌≡◌, IfOk};
 ghost use Rattle.std.specs.List.{filter_map};
-ghost use Rattle.tk_screen.specs.Own.{own_of};
+ghost use Rattle.tk_screen.specs.Shared.{own_of};
 ghost use Rattle.tk_screen.specs.Reads.{read_at, reads};
 ghost use Rattle.tk_screen.specs.Shapes.{shape_at, shapes};
 

@@ -1,10 +1,11 @@
 //! What the layout has to know of windows.
 ghost use Rattle.std.specs.Prelude.{◌≡◌, IfOk};
 ghost use Rattle.std.specs.Option.{option_copied};
-ghost use Rattle.tk_packer.specs.Packs.{own_of as packs_of};
-ghost use Rattle.tk_screen.specs.Own.{own_of};
+ghost use Rattle.tk_packer.specs.Shared.{own_of as packs_of};
+ghost use Rattle.tk_screen.specs.Shared.{own_of};
 ghost use Rattle.tk_screen.specs.Shapes.{is_frame, shape_by, shape_of, value_of, variable_text};
-ghost use Rattle.tk_tree.specs.Own.{own_of as tree_of, window_at};
+ghost use Rattle.tk_tree.specs.Own.{window_at};
+ghost use Rattle.tk_tree.specs.Shared.{own_of as tree_of};
 
 use crate::kept::KeptWidget;
 use crate::screen::Screen;

@@ -1,7 +1,7 @@
 //! The lines of what an application has waiting.
 ghost use Rattle.std.specs.Prelude.{◌≡◌, [], ◌++◌, OnOk};
 ghost use Rattle.std.specs.Option.{option_copied, option_map_or};
-ghost use Rattle.tk_after.specs.Timers.{own_of};
+ghost use Rattle.tk_after.specs.Shared.{own_of};
 ghost use Rattle.tk_screen.specs.Timers.{entry_line, kind_fields, name_field, timer_lines};
 
 use crate::fields::{push_escaped, push_field, push_number};

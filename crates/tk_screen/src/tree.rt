@@ -1,9 +1,9 @@
 //! The lines of an application's windows.
 ghost use Rattle.std.specs.Prelude.{◌≡◌, ◌++◌, IfOk, OnOk};
-ghost use Rattle.tk_screen.specs.Own.{own_of};
+ghost use Rattle.tk_screen.specs.Shared.{own_of};
 ghost use Rattle.tk_screen.specs.Shapes.{value_of};
 ghost use Rattle.tk_screen.specs.Tree.{class_name, line_at, place_fields, tree_lines, value_field, window_line};
-ghost use Rattle.tk_tree.specs.Own.{own_of as tree_of};
+ghost use Rattle.tk_tree.specs.Shared.{own_of as tree_of};
 
 use crate::fields::{push_escaped, push_field, push_path};
 use crate::order::pre_order;

@@ -14,7 +14,8 @@ use Rattle.tk_tree.specs.declared.windows.Node.{Node}
 use Rattle.tk_tree.specs.Arena.{at, held_by, IsKept, HoldsNumber, HoldsPath}
 use Rattle.tk_tree.specs.Create.{with_window}
 use Rattle.tk_tree.specs.Index.{key_at, number_at, children_at, added_child, left_children, Adds, Removes, SameIndex}
-use Rattle.tk_tree.specs.Own.{Tree, own_of, LeavesOthers, HasOlderParent, IsSound, at_path, is_full, child_numbers}
+use Rattle.tk_tree.specs.Own.{Tree, HasOlderParent, IsSound, at_path, is_full, child_numbers}
+use Rattle.tk_tree.specs.Shared.{own_of, LeavesOthers}
 use Rattle.tk_tree.specs.Window.{number_of, new_window}
 use Rattle.tk_tree.proofs.Children.{Differ, differ_below, one_child, children-append, left_new, no_children}
 use Rattle.tk_tree.proofs.IndexLemmas.{text_is, text_same}

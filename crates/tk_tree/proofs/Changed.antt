@@ -14,7 +14,8 @@ use Rattle.tk_tree.specs.Change.{changed as change_of}
 use Rattle.tk_tree.specs.declared.change.WindowChange.{WindowChange}
 use Rattle.tk_tree.specs.declared.change.WindowChange.TheVariants.{Dying, Tags, Place}
 use Rattle.tk_tree.specs.Index.{key_at, number_at, children_at, left_children, Removes}
-use Rattle.tk_tree.specs.Own.{Tree, own_of, LeavesOthers, HasOlderParent, HaveOlderParents, IsSound, with_change, without_window, child_numbers}
+use Rattle.tk_tree.specs.Own.{Tree, HasOlderParent, HaveOlderParents, IsSound, with_change, without_window, child_numbers}
+use Rattle.tk_tree.specs.Shared.{own_of, LeavesOthers}
 use Rattle.tk_tree.specs.Window.{number_of}
 use Rattle.tk_tree.proofs.Added.{own_same, cases_text}
 use Rattle.tk_tree.proofs.Children.{differ_front, differ_back, children-append, children_with, children_swap, children_less, still_none}

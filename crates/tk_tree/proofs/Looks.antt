@@ -12,7 +12,8 @@ use Rattle.tk_tree.specs.declared.windows.Node.{Node}
 use Rattle.tk_tree.specs.Arena.{at, held_by, IsKept}
 use Rattle.tk_tree.specs.Index.{key_at, number_at}
 use Rattle.std.specs.Option.{option_copied}
-use Rattle.tk_tree.specs.Own.{Tree, own_of, window_at, at_path}
+use Rattle.tk_tree.specs.Own.{Tree, window_at, at_path}
+use Rattle.tk_tree.specs.Shared.{own_of}
 use Rattle.tk_tree.specs.Window.{number_of}
 use Rattle.tk_tree.proofs.IndexLemmas.{text_is, text_same}
 use Rattle.tk_tree.proofs.Lists.{some_same, find_passes, find_below, find_numbered}

@@ -6,7 +6,8 @@ use Rattle.tk_tree.specs.declared.index.PathIndex.{PathIndex}
 use Rattle.tk_tree.specs.declared.windows.Node.{Node}
 use Rattle.tk_tree.specs.declared.window.Window.{Window}
 use Rattle.tk_tree.specs.Index.{key_at, number_at, children_at}
-use Rattle.tk_tree.specs.Own.{Held, own_of, windows_of, child_numbers, IsSound}
+use Rattle.tk_tree.specs.Own.{child_numbers, IsSound}
+use Rattle.tk_tree.specs.Shared.{Held, own_of, windows_of}
 use Rattle.tk_tree.specs.Window.{number_of}
 use Rattle.tk_base.specs.Counters.{count_of}
 

@@ -8,6 +8,7 @@ pub mod Index
 pub mod Orders
 pub mod Own
 pub mod Path
+pub mod Shared
 pub mod Walks
 pub mod Ways
 pub mod Window

@@ -1,34 +1,15 @@
--- Meaning. The windows of one application, and those of all.
-use Rattle.std.specs.Prelude.{◌≡◌, ◌≢◌, ◌<◌, ◌≤◌, ℕ, Bool, false, ◌==◌, ◌||◌, nat_le, nat_eq, List, [], ◌∷◌, length, find, filter, map, Option, MatchOption}
+-- Meaning. The windows of one application.
+use Rattle.std.specs.Prelude.{◌<◌, ◌≤◌, ℕ, Bool, false, ◌==◌, ◌||◌, nat_le, List, [], ◌∷◌, length, find, filter, map, Option, MatchOption}
 use Rattle.std.specs.Option.{option_map_or}
-use Rattle.std.specs.Map.{lookup}
 use Rattle.std.specs.Str.{bytes_eq}
-use Rattle.tk_base.specs.Bag.{Item, listed, numbered, without, changed_at, AllBelow, IsRising}
-use Rattle.tk_base.specs.declared.counter.Counter.{Counter}
+use Rattle.tk_base.specs.Bag.{numbered, without, changed_at, AllBelow, IsRising}
 use Rattle.tk_tree.specs.declared.window.Window.{Window}
 use Rattle.tk_tree.specs.Window.{number_of}
-use Rattle.tk_base.specs.Counters.{next_of}
 
--- one application's part: the number that comes next, and its windows in the order of creation, which is that of their numbers
+-- the number that comes next, and the windows in the order of creation, which is that of their numbers
 pub record Tree : Type 0 where
   pub next_number : ℕ
   pub windows : List Window
-
--- all applications' parts: each one's counter, and the windows in any order
-pub record Held : Type 0 where
-  pub counters : List (ℕ × Counter)
-  pub bag : List (Item Window)
-
-abbrev pub windows_of : ℕ → Held → List Window
-windows_of owner held = listed number_of owner held.bag
-
--- an application's part
-abbrev pub own_of : ℕ → Held → Tree
-own_of owner held = record { next_number = next_of owner held.counters; windows = windows_of owner held }
-
--- every other application's part is as before
-abbrev pub LeavesOthers : ℕ → Held → Held → Type 0
-LeavesOthers owner old new = (other : ℕ) → other ≢ owner → own_of other new ≡ own_of other old
 
 -- the window with a number
 abbrev pub window_at : ℕ → Tree → Option Window

@@ -5,7 +5,8 @@ ghost use Rattle.tk_tree.specs.Corners.{corner};
 ghost use Rattle.tk_tree.specs.Create.{refusal, place_refusal, parent_number, with_window};
 ghost use Rattle.tk_tree.specs.Orders.{below, below_first, subtree, post_order};
 ghost use Rattle.tk_tree.specs.Walks.{all_below, all_below_first};
-ghost use Rattle.tk_tree.specs.Own.{own_of, window_at, at_path, is_full, child_numbers, with_change, without_window, LeavesOthers, IsSound};
+ghost use Rattle.tk_tree.specs.Own.{window_at, at_path, is_full, child_numbers, with_change, without_window, IsSound};
+ghost use Rattle.tk_tree.specs.Shared.{own_of, LeavesOthers};
 ghost use Rattle.tk_tree.specs.Ways.{at_point, way_at, way_to, way_up};
 
 use crate::change::{WindowChange, change_window};
@@ -47,7 +48,7 @@ pub struct Windows {
 }
 
 impl Model for Windows {
-    ghost use Rattle.tk_tree.specs.Own.{Held};
+    ghost use Rattle.tk_tree.specs.Shared.{Held};
 
     ghost Value = { Held };
 

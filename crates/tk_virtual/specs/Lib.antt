@@ -2,4 +2,5 @@
 pub mod Classes
 pub mod FaultTexts
 pub mod Named
+pub mod Shared
 pub mod Virtual

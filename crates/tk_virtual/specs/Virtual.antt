@@ -1,8 +1,6 @@
 -- Meaning. Pairs of a virtual event's name and a sequence that stands for it.
-use Rattle.std.specs.Prelude.{◌≡◌, ◌≢◌, ℕ, Bool, ◌&&◌, not, nat_eq, nat_le, if◌then◌else◌, List, [], ◌∷◌, ◌++◌, length, map, filter, fold, Option, Some, None, Result, Ok, Err}
+use Rattle.std.specs.Prelude.{ℕ, Bool, ◌&&◌, not, nat_le, if◌then◌else◌, List, [], ◌∷◌, ◌++◌, length, map, filter, fold, Option, Some, None, Result, Ok, Err}
 use Rattle.std.specs.List.{list_any}
-use Rattle.std.specs.Map.{lookup}
-use Rattle.std.specs.Option.{option_map_or}
 use Rattle.std.specs.Str.{bytes_eq}
 use Rattle.tk_sequences.specs.Reading.{parsed}
 use Rattle.tk_sequences.specs.Words.{in_brackets, name_in}
@@ -137,16 +135,3 @@ names_of pairs = fold with_name [] pairs
 -- the same in their brackets
 abbrev pub written_names : List Pair → List (List ℕ)
 written_names pairs = map in_brackets (names_of pairs)
-
--- ---- all applications
-
-abbrev pub Held : Type 0
-Held = List (ℕ × List Pair)
-
--- an application's; one that hasn't been named has none
-abbrev pub own_of : ℕ → Held → List Pair
-own_of owner held = option_map_or (λ own. own) (lookup (nat_eq owner) held) []
-
--- every application but one has what it had
-abbrev pub LeavesOthers : ℕ → Held → Held → Type 0
-LeavesOthers owner old new = (other : ℕ) → other ≢ owner → own_of other new ≡ own_of other old

@@ -1,7 +1,8 @@
 //! The table of all applications.
 ghost use Rattle.std.specs.Prelude.{◌≡◌, ◌≢◌, [], length, take, filter, IfOk, IfErr, OnOk, OnErr, Ok, Err};
 ghost use Rattle.tk_sequences.specs.Words.{name_in};
-ghost use Rattle.tk_virtual.specs.Virtual.{LeavesOthers, added, all_added, deleted, name_or_fault, own_of, pairs_meant, without_name, without_pair, without_pairs, written_names, written_of};
+ghost use Rattle.tk_virtual.specs.Virtual.{added, all_added, deleted, name_or_fault, pairs_meant, without_name, without_pair, without_pairs, written_names, written_of};
+ghost use Rattle.tk_virtual.specs.Shared.{LeavesOthers, own_of};
 
 use crate::fault::VirtualFault;
 use crate::pair::{Pair, name_meant, pair_meant};
@@ -25,7 +26,7 @@ pub struct VirtualTable {
 
 impl Model for VirtualTable {
     ghost use Rattle.std.specs.Prelude.{◌≡◌, []};
-    ghost use Rattle.tk_virtual.specs.Virtual.{Held};
+    ghost use Rattle.tk_virtual.specs.Shared.{Held};
 
     ghost Value = { Held };
 

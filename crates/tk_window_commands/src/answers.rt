@@ -1,7 +1,8 @@
 //! What the commands on windows answer.
 ghost use Rattle.std.specs.Prelude.{◌≡◌, [], Some, IfOk, IfSome};
 ghost use Rattle.std.specs.Option.{option_copied};
-ghost use Rattle.tk_tree.specs.Own.{own_of as tree_of, at_path, window_at};
+ghost use Rattle.tk_tree.specs.Own.{at_path, window_at};
+ghost use Rattle.tk_tree.specs.Shared.{own_of as tree_of};
 
 use std::alloc::{AllocError, Global};
 use tcl_text::Text;

@@ -1,6 +1,6 @@
 //! The commands on windows by their names.
 ghost use Rattle.std.specs.Prelude.{◌≡◌, IfOk};
-ghost use Rattle.tk_screen.specs.Own.{own_of, LeavesOthers};
+ghost use Rattle.tk_screen.specs.Shared.{own_of, LeavesOthers};
 ghost use Rattle.tk_window_commands.specs.Commands as spec;
 
 use crate::create::create_command;

@@ -1,6 +1,6 @@
 //! The commands of windows.
 ghost use Rattle.std.specs.Prelude.{◌≡◌, IfOk};
-ghost use Rattle.tk_screen.specs.Own.{own_of, LeavesOthers};
+ghost use Rattle.tk_screen.specs.Shared.{own_of, LeavesOthers};
 ghost use Rattle.tk_window_commands.specs.Path as spec;
 
 use crate::answers::window_at_path;

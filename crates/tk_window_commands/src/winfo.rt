@@ -1,7 +1,7 @@
 //! `winfo`, by its words.
 ghost use Rattle.std.specs.Prelude.{◌≡◌, IfOk};
 ghost use Rattle.tcl_text.specs.Answers.{Gives};
-ghost use Rattle.tk_screen.specs.Own.{own_of};
+ghost use Rattle.tk_screen.specs.Shared.{own_of};
 ghost use Rattle.tk_window_commands.specs.Winfo as spec;
 
 use crate::answers::window_at_path;

@@ -2,8 +2,9 @@
 ghost use Rattle.std.specs.Prelude.{◌≡◌, [], Some, map, IfOk, IsSome};
 ghost use Rattle.std.specs.Option.{option_map_or};
 ghost use Rattle.tcl_text.specs.Answers.{Gives, answers};
-ghost use Rattle.tk_screen.specs.Own.{own_of};
-ghost use Rattle.tk_tree.specs.Own.{own_of as tree_of, window_at};
+ghost use Rattle.tk_screen.specs.Shared.{own_of};
+ghost use Rattle.tk_tree.specs.Own.{window_at};
+ghost use Rattle.tk_tree.specs.Shared.{own_of as tree_of};
 ghost use Rattle.tk_window_commands.specs.Winfo as spec;
 
 use crate::refusals::name_in;

@@ -12,7 +12,7 @@ use Rattle.tk_route.specs.declared.line.HostLine.TheVariants.{Move, Press, Relea
 use Rattle.tk_app.specs.Section.{section}
 use Rattle.tk_app.specs.Seen.{Meaning}
 use Rattle.tk_app.specs.Spec.{Spec}
-use Rattle.tk_host.specs.Alone.{alone}
+use Rattle.tk_host.specs.AloneByJob.{alone}
 use Rattle.tk_host.specs.FirstFormat.{alone_without_refills}
 use Rattle.tk_host.proofs.FirstFormat.{without_refills}
 use Rattle.tk_session.specs.declared.session.AppBlock.{AppBlock}

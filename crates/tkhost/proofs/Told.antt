@@ -16,7 +16,8 @@ use Rattle.tk_app.specs.Spec.{Spec}
 use Rattle.tk_route.specs.declared.fault.LineFault.TheVariants.{Broken}
 use Rattle.tk_host.specs.declared.phase.Phase.{Phase}
 use Rattle.tk_host.specs.declared.phase.Phase.TheVariants.{Adding, Reached, Finished, Lost}
-use Rattle.tk_host.specs.Alone.{alone, alone_by}
+use Rattle.tk_host.specs.Alone.{alone_by}
+use Rattle.tk_host.specs.AloneByJob.{alone}
 use Rattle.tk_host.specs.Held.{HostState, held_after, parts_in}
 use Rattle.tk_route.specs.Refusals.{NoneApplies}
 use Rattle.tk_host.specs.Refusals.{RefusesSection, PhaseRefuses, section_faults}
@@ -25,7 +26,8 @@ use Rattle.tk_session.specs.Session.{Plan, newest_first, rects_of}
 use Rattle.tk_session.specs.declared.session.AppBlock.{AppBlock}
 use Rattle.tkhost.specs.Calls.{calls_of, sections_from}
 use Rattle.tk_host.proofs.BySettle.{alone_by_settle}
-use Rattle.tkhost.specs.Play.{SameBytes, Serve, sections_by, sections_of, spec_of, specs_of}
+use Rattle.tkhost.specs.Play.{Serve, sections_by, spec_of, specs_of}
+use Rattle.tkhost.specs.Sections.{SameBytes, sections_of}
 use Rattle.tkhost.proofs.Adds.{givens, givens-rects}
 use Rattle.tkhost.proofs.Happens.{held-played}
 

@@ -7,7 +7,7 @@ use Rattle.tk_route.specs.Routes.{routed}
 use Rattle.tk_app.specs.Section.{section}
 use Rattle.tk_app.specs.Seen.{Meaning}
 use Rattle.tk_app.specs.Spec.{Spec}
-use Rattle.tk_host.specs.Alone.{alone}
+use Rattle.tk_host.specs.AloneByJob.{alone}
 use Rattle.tk_host.specs.Held.{Call, AddApp, End, LineAt, Start}
 use Rattle.tk_host.specs.Spec.{Given, given}
 use Rattle.tk_session.specs.declared.session.AppBlock.{AppBlock}

@@ -7,7 +7,8 @@ use Rattle.tk_app.specs.Seen.{Meaning}
 use Rattle.tk_app.specs.Spec.{Spec}
 use Rattle.tk_host.specs.FirstFormat.{alone_without_refills}
 use Rattle.tk_session.specs.Session.{IsSession, Plan, lines_of, newest_first, rects_at, rects_of}
-use Rattle.tkhost.specs.Play.{sections_in, specs_of}
+use Rattle.tkhost.specs.Play.{specs_of}
+use Rattle.tkhost.specs.Sections.{sections_in}
 
 module _ {M : Type 0} (answer : M → Meaning) where
   -- the section of each application, to which events grant nothing

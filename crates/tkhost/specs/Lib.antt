@@ -4,3 +4,4 @@ pub mod Calls
 pub mod FirstFormat
 pub mod Output
 pub mod Play
+pub mod Sections

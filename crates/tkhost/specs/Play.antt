@@ -7,7 +7,6 @@ use Rattle.tk_alias.specs.declared.reply.AliasReply.{AliasReply}
 use Rattle.tk_app.specs.Dispatch.{Continuation}
 use Rattle.tk_app.specs.Section.{section}
 use Rattle.tk_app.specs.Seen.{Meaning, names_of}
-use Rattle.tk_app.specs.Settle.{settle_meaning}
 use Rattle.tk_app.specs.Spec.{Spec}
 use Rattle.tk_host.specs.Alone.{alone_by}
 use Rattle.tk_alias.specs.Services.{answer_of}
@@ -63,23 +62,3 @@ module _ {M : Type 0} (answer : M → Meaning) where
     -- and what is written of them: these one after another, and nothing else
     abbrev pub sections_by : Plan → List (List (List ℕ × M)) → List ℕ
     sections_by plan lists = flat_map (λ bytes. bytes) (sections_in_by plan lists)
-
-  -- The same by the job that does it, which meets the equation of *Settle*; by anything else that meets it the sections are the same (`AloneBySettle`).
-  abbrev pub sections_in : Plan → List (List (List ℕ × M)) → List (List ℕ)
-  sections_in = sections_in_by settle_meaning
-
-  abbrev pub sections_of : Plan → List (List (List ℕ × M)) → List ℕ
-  sections_of = sections_by settle_meaning
-
-  -- Two sessions that end at the same moment, and have an application each with the same spec, be it in two places, to which the same events are
-  -- routed, give it the same bytes, whatever else they say.
-  abbrev pub SameBytes : Type 0
-  SameBytes =
-      (plan other : Plan) (lists others : List (List (List ℕ × M))) (slot other_slot : ℕ) (spec : Spec M)
-      → slice_get (specs_of plan.apps lists) slot ≡ Some spec → slice_get (specs_of other.apps others) other_slot ≡ Some spec → plan.end ≡ other.end
-      → routed (rects_of plan.apps) (newest_first plan.events) slot ≡ routed (rects_of other.apps) (newest_first other.events) other_slot
-      → slice_get (sections_in plan lists) slot ≡ slice_get (sections_in other others) other_slot
-
--- what the program writes of a session, by its own services
-abbrev pub program_sections : Plan → List ℕ
-program_sections plan = sections_of (λ (service : Service). answer_of service.kind service.config) plan (map services_in plan.apps)

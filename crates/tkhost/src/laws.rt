@@ -1,7 +1,7 @@
 //! What a session comes to. The functions do nothing: their contracts are the laws.
 ghost use Rattle.tkhost.specs.Bounds.{SessionWithin};
 ghost use Rattle.tkhost.specs.FirstFormat.{FirstFormatSections};
-ghost use Rattle.tkhost.specs.Play.{SameBytes};
+ghost use Rattle.tkhost.specs.Sections.{SameBytes};
 
 use tk_host::AliasMeaning;
 

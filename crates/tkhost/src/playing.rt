@@ -11,7 +11,8 @@ ghost use Rattle.tkhost.specs.Output.{AppendsFront};
 ghost use Rattle.tkhost.specs.Calls.{adding, given_of, lining};
 ghost use Rattle.tk_app.specs.Dispatch.{Continuation};
 ghost use Rattle.tk_app.specs.Settle.{IsSettle};
-ghost use Rattle.tkhost.specs.Play.{Serve, sections_by, sections_of};
+ghost use Rattle.tkhost.specs.Play.{Serve, sections_by};
+ghost use Rattle.tkhost.specs.Sections.{sections_of};
 
 use crate::output::write_whole;
 use std::alloc::{AllocError, AllocFailed, Global};

@@ -5,7 +5,8 @@ ghost use Rattle.tk_route.specs.Fault.{number_of as number_of_fault};
 ghost use Rattle.tk_session.specs.Session.{Plan, IsSession, HasFault};
 ghost use Rattle.tk_route.specs.declared.fault.LineFault.{LineFault};
 ghost use Rattle.tkhost.specs.Output.{AppendsFront};
-ghost use Rattle.tkhost.specs.Play.{MakesServices, program_sections};
+ghost use Rattle.tkhost.specs.Play.{MakesServices};
+ghost use Rattle.tkhost.specs.Sections.{program_sections};
 
 use crate::input::{InputFault, read_input};
 use crate::outcome::Outcome;

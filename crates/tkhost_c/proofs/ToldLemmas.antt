@@ -10,7 +10,7 @@ use Rattle.tk_route.specs.Refusals.{NoneApplies}
 use Rattle.tk_route.specs.declared.fault.HostFault.{HostFault}
 use Rattle.tk_route.specs.declared.fault.HostFault.TheVariants.{Refused, NoMemory as no_memory}
 use Rattle.tk_session.specs.Session.{IsSession, Plan}
-use Rattle.tkhost.specs.Play.{program_sections}
+use Rattle.tkhost.specs.Sections.{program_sections}
 use Rattle.tkhost_c.specs.Calls.{Plays, TellsSection, Told, answer_by}
 use Rattle.tkhost_c.specs.Keeps.{Keeps}
 use Rattle.tkhost_c.specs.Refused.{refusal_of}

@@ -27,7 +27,7 @@ use Rattle.tk_session.specs.declared.session.AppBlock.{AppBlock}
 use Rattle.tk_session.specs.declared.session.EventLine.{EventLine}
 use Rattle.tk_session.specs.OneLine.{IsLineOfEvent}
 use Rattle.tk_session.specs.Session.{HasFault, IsEndLine, IsSession, Plan}
-use Rattle.tkhost.specs.Play.{program_sections}
+use Rattle.tkhost.specs.Sections.{program_sections}
 use Rattle.tkhost_c.specs.declared.telling.HostTurn.{HostTurn}
 use Rattle.tkhost_c.specs.declared.refusal.Refusal.{Refusal}
 use Rattle.tkhost_c.specs.declared.refusal.Refusal.TheVariants.{Fault, NoMemory, NoHost, HasHost, TooSmall, NotStarted}

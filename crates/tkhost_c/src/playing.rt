@@ -1,6 +1,7 @@
 //! Whole sessions.
 ghost use Rattle.std.specs.Prelude.{◌≡◌, ◌≤◌, Result, IfOk};
-ghost use Rattle.tkhost.specs.Play.{MakesServices, program_sections};
+ghost use Rattle.tkhost.specs.Play.{MakesServices};
+ghost use Rattle.tkhost.specs.Sections.{program_sections};
 ghost use Rattle.tkhost_c.specs.declared.refusal.Refusal.{Refusal as RefusalOf};
 ghost use Rattle.tkhost_c.specs.Calls.{Plays};
 ghost use Rattle.tkhost_c.specs.Numbers.{number_for};

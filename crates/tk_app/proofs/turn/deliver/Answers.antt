@@ -1,5 +1,5 @@
 use Rattle.std.proofs.Common.{inl, refl, ◌∙◌}
-use Rattle.tk_panel.specs.Panel.{panel_of}
+use Rattle.tk_panel.specs.Shared.{panel_of}
 use Rattle.tk_app.specs.Turns.{part_of}
 use Rattle.tk_app.proofs.Events.{deliver_nothing}
 use Rattle.tk_app.proofs.turn.deliver.Goals as goal

@@ -1,5 +1,5 @@
 use Rattle.std.proofs.Common.{inl, inr}
-use Rattle.tk_panel.specs.Panel.{panel_of}
+use Rattle.tk_panel.specs.Shared.{panel_of}
 use Rattle.tk_panel.proofs.Others.{others_same}
 use Rattle.tk_app.proofs.Events.{deliver_is}
 use Rattle.tk_app.proofs.turn.deliver_running.Goals as goal

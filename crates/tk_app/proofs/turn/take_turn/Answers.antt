@@ -1,5 +1,5 @@
 use Rattle.std.proofs.Common.{refl, ◌∙◌, arith}
-use Rattle.tk_panel.specs.Panel.{panel_of}
+use Rattle.tk_panel.specs.Shared.{panel_of}
 use Rattle.tk_app.specs.Turns.{Program, part_of}
 use Rattle.tk_app.proofs.Slices.{stopped_turn}
 use Rattle.tk_app.proofs.Views.{none_told}

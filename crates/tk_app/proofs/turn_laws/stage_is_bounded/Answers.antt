@@ -1,5 +1,6 @@
 use Rattle.std.proofs.Common.{arith, map}
-use Rattle.tk_app.specs.Stages.{settled_if_due_at, used_at}
+use Rattle.tk_app.specs.Stages.{used_at}
+use Rattle.tk_app.specs.Due.{settled_if_due_at}
 use Rattle.tk_app.proofs.Shares.{steps_in_turns, sum_used}
 use Rattle.tk_app.proofs.turn_laws.stage_is_bounded.Goals as goal
 

@@ -1,8 +1,8 @@
 use Rattle.std.proofs.Common.{◌≡◌, drop}
 use Rattle.std.specs.List.{filter_map}
 use Rattle.tk_dispatch.specs.Dispatch.{all_of, before, script_of, scripts_of}
-use Rattle.tk_patterns.specs.Own as bindings_of
-use Rattle.tk_tree.specs.Own as windows_of
+use Rattle.tk_patterns.specs.Shared as bindings_of
+use Rattle.tk_tree.specs.Shared as windows_of
 use Rattle.tk_virtual.specs.Virtual.{meanings_of}
 use Rattle.tk_dispatch.proofs.dispatch.scripts_of.Given as goal
 

@@ -1,7 +1,8 @@
 use Rattle.std.proofs.Common.{refl, sym, ap, ◌∙◌, subst}
-use Rattle.tk_app.specs.Stages.{IsPast, first_moment_due}
+use Rattle.tk_app.specs.Stages.{first_moment_due}
+use Rattle.tk_app.specs.Due.{IsPast}
 use Rattle.tk_app.specs.Application.{next_due}
-use Rattle.tk_app.specs.Moments.{settled}
+use Rattle.tk_app.specs.MomentsByJob.{settled}
 use Rattle.tk_app.specs.Turns.{Applications}
 use Rattle.tk_app.proofs.Views.{on_err}
 use Rattle.tk_host.specs.Turns.{applications}

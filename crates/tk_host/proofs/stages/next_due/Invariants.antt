@@ -1,7 +1,7 @@
 use Rattle.std.proofs.Common.{◌≡◌, drop}
 use Rattle.tk_app.specs.Stages.{earlier, first_moment_due}
 use Rattle.tk_app.specs.Application.{next_due}
-use Rattle.tk_app.specs.Moments.{settled}
+use Rattle.tk_app.specs.MomentsByJob.{settled}
 use Rattle.tk_host.specs.Turns.{applications}
 use Rattle.tk_host.proofs.stages.next_due.Given as goal
 

@@ -2,7 +2,7 @@ use Rattle.std.proofs.Common.{◌≡◌, ◌++◌, take}
 use Rattle.std.specs.List.{flat_map}
 use Rattle.tk_inputs.specs.Deliver.{told_events}
 use Rattle.tk_dispatch.specs.Queue.{own_of, LeavesOthers}
-use Rattle.tk_tree.specs.Own as tree
+use Rattle.tk_tree.specs.Shared as tree
 use Rattle.tk_inputs.proofs.delivery.queue_told.Given as goal
 
 -- those told so far are queued

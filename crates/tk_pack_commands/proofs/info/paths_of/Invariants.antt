@@ -1,5 +1,5 @@
 use Rattle.std.proofs.Common.{◌≡◌, ◌++◌, drop}
-use Rattle.tk_tree.specs.Own.{own_of}
+use Rattle.tk_tree.specs.Shared.{own_of}
 use Rattle.tk_pack_commands.specs.Info.{paths_of}
 use Rattle.tk_pack_commands.proofs.info.paths_of.Given as goal
 

@@ -1,6 +1,6 @@
 use Rattle.std.proofs.Common.{◌≡◌, length}
-use Rattle.tk_packer.specs.Packs.{own_of as packs_of, LeavesOthers}
-use Rattle.tk_tree.specs.Own.{own_of}
+use Rattle.tk_packer.specs.Shared.{own_of as packs_of, LeavesOthers}
+use Rattle.tk_tree.specs.Shared.{own_of}
 use Rattle.tk_pack_commands.specs.Pack.{all_forgotten}
 use Rattle.tk_pack_commands.proofs.pack.forget_all.Given as goal
 

@@ -1,5 +1,5 @@
 use Rattle.std.proofs.Common.{◌≡◌, length}
-use Rattle.tk_packer.specs.Packs.{own_of, LeavesOthers}
+use Rattle.tk_packer.specs.Shared.{own_of, LeavesOthers}
 use Rattle.std.specs.Prelude.{None}
 use Rattle.tk_pack_commands.specs.Options.{last_sibling}
 use Rattle.tk_pack_commands.specs.Places.{packed_all}

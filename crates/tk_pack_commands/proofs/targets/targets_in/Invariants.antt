@@ -1,5 +1,5 @@
 use Rattle.std.proofs.Common.{◌≡◌, length}
-use Rattle.tk_tree.specs.Own.{own_of}
+use Rattle.tk_tree.specs.Shared.{own_of}
 use Rattle.tk_pack_commands.specs.Targets.{targets_in}
 use Rattle.tk_pack_commands.proofs.StepLemmas.{items_behind}
 use Rattle.tk_pack_commands.proofs.targets.targets_in.Given as goal

@@ -2,7 +2,7 @@ use Rattle.std.proofs.Common.{refl, ap, ◌∙◌}
 use Rattle.std.proofs.lemmas.Result.{IfOk-weaker}
 use Rattle.tk_packer.specs.Changes.{changes_of}
 use Rattle.tk_packer.specs.Groups.{slaves_in}
-use Rattle.tk_packer.specs.Packs.{own_of}
+use Rattle.tk_packer.specs.Shared.{own_of}
 use Rattle.tk_packer.proofs.Whole.{layout_is}
 use Rattle.tk_packer.proofs.layout.lay_out.Goals as goal
 

@@ -1,6 +1,6 @@
 use Rattle.std.proofs.Common.{◌≡◌, length}
 use Rattle.tk_panel.specs.Changes.{with_events_of}
-use Rattle.tk_panel.specs.Panel.{LeavesOthers, panel_of}
+use Rattle.tk_panel.specs.Shared.{LeavesOthers, panel_of}
 use Rattle.tk_panel.proofs.changes.queue_changes.Given as goal
 
 abbrev pub invariant-loop-change : goal.invariant-loop-change

@@ -2,9 +2,9 @@ use Rattle.std.proofs.Common.{Bool, sym, ap, ◌∙◌}
 use Rattle.std.specs.Prelude.{is_some}
 use Rattle.tk_dispatch.specs.Histories as histories
 use Rattle.tk_screen.specs.declared.screen.Screen.{Screen}
-use Rattle.tk_tree.specs.Own as windows_of
+use Rattle.tk_tree.specs.Shared as windows_of
 use Rattle.tk_tree.specs.Own.{window_at}
-use Rattle.tk_panel.specs.Panel.{panel_of}
+use Rattle.tk_panel.specs.Shared.{panel_of}
 use Rattle.tk_panel.proofs.Choices.{chosen_refused}
 use Rattle.tk_panel.proofs.choice.choose.Goals as goal
 

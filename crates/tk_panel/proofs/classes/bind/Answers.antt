@@ -1,5 +1,6 @@
 use Rattle.std.proofs.Common.{ap, ◌∙◌}
-use Rattle.tk_patterns.specs.Own.{own_of, without_tag}
+use Rattle.tk_patterns.specs.Own.{without_tag}
+use Rattle.tk_patterns.specs.Shared.{own_of}
 use Rattle.tk_panel.proofs.Kept.{with_binding_kept}
 use Rattle.tk_panel.proofs.classes.bind.Goals as goal
 

@@ -1,5 +1,5 @@
 use Rattle.std.proofs.Common.{◌∙◌}
-use Rattle.tk_patterns.specs.Own.{own_of}
+use Rattle.tk_patterns.specs.Shared.{own_of}
 use Rattle.tk_panel.proofs.Kept.{button_kept, entry_kept, listbox_kept}
 use Rattle.tk_panel.proofs.classes.bind_each.Goals as goal
 

@@ -1,7 +1,8 @@
 use Rattle.std.proofs.Common.{◌≡◌, length, map}
 use Rattle.tk_options.specs.Rows.{binding}
 use Rattle.tk_panel.specs.ClassBindings.{with_rows}
-use Rattle.tk_patterns.specs.Own.{LeavesOthers, own_of, without_tag}
+use Rattle.tk_patterns.specs.Own.{without_tag}
+use Rattle.tk_patterns.specs.Shared.{LeavesOthers, own_of}
 use Rattle.tk_panel.proofs.classes.bind_rows.Given as goal
 
 abbrev pub invariant-loop-row : goal.invariant-loop-row

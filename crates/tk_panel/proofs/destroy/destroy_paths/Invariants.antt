@@ -1,6 +1,6 @@
 use Rattle.std.proofs.Common.{◌≡◌, length}
 use Rattle.tk_panel.specs.Destroy.{destroys}
-use Rattle.tk_panel.specs.Panel.{LeavesOthers, panel_of}
+use Rattle.tk_panel.specs.Shared.{LeavesOthers, panel_of}
 use Rattle.tk_panel.proofs.destroy.destroy_paths.Given as goal
 
 -- the paths before mean no window whose Destroy event has scripts

@@ -1,5 +1,5 @@
 use Rattle.std.proofs.Common.{◌≡◌, length}
-use Rattle.tk_tree.specs.Own.{own_of, LeavesOthers}
+use Rattle.tk_tree.specs.Shared.{own_of, LeavesOthers}
 use Rattle.tk_panel.specs.Destroy.{all_dying}
 use Rattle.tk_panel.proofs.destroy.mark_all.Given as goal
 

@@ -1,5 +1,5 @@
 use Rattle.std.proofs.Common.{sym, ◌∙◌}
-use Rattle.tk_tree.specs.Own.{own_of}
+use Rattle.tk_tree.specs.Shared.{own_of}
 use Rattle.tk_panel.proofs.Marks.{unmarked}
 use Rattle.tk_panel.proofs.destroy.mark_dying.Goals as goal
 

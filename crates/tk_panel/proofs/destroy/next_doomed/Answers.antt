@@ -1,7 +1,7 @@
 use Rattle.std.proofs.Common.{ℕ, List, sym, ap, ◌∙◌}
 use Rattle.std.specs.Prelude.{Some}
 use Rattle.tk_panel.specs.Destroy.{Doomed, next_doomed}
-use Rattle.tk_panel.specs.Panel.{panel_of}
+use Rattle.tk_panel.specs.Shared.{panel_of}
 use Rattle.tk_panel.proofs.Dooms.{doomed_goes, doomed_waits}
 use Rattle.tk_panel.proofs.Heads.{first_seen, none_seen}
 use Rattle.tk_panel.proofs.Others.{others_then}

@@ -1,6 +1,6 @@
 use Rattle.std.proofs.Common.{◌≡◌, length}
 use Rattle.tk_panel.specs.Destroy.{next_doomed}
-use Rattle.tk_panel.specs.Panel.{LeavesOthers, panel_of}
+use Rattle.tk_panel.specs.Shared.{LeavesOthers, panel_of}
 use Rattle.tk_panel.proofs.destroy.next_doomed.Given as goal
 
 -- the windows before have no scripts for Destroy, and are gone

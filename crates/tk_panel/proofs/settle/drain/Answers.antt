@@ -1,6 +1,7 @@
 use Rattle.std.proofs.Common.{◌≡◌, ℕ, List, length, arith, sym, ap, ◌∙◌}
 use Rattle.tk_dispatch.specs.Queue.{own_of}
-use Rattle.tk_panel.specs.Panel.{Panel, panel_of}
+use Rattle.tk_panel.specs.Panel.{Panel}
+use Rattle.tk_panel.specs.Shared.{panel_of}
 use Rattle.tk_panel.specs.Settle.{with_queue}
 use Rattle.tk_panel.proofs.Choices.{chosen_queue}
 use Rattle.tk_panel.proofs.Drains.{drained_finds, drained_skips}

@@ -1,5 +1,5 @@
 use Rattle.std.proofs.Common.{◌≡◌, length}
-use Rattle.tk_panel.specs.Panel.{LeavesOthers, panel_of}
+use Rattle.tk_panel.specs.Shared.{LeavesOthers, panel_of}
 use Rattle.tk_panel.specs.Settle.{drained}
 use Rattle.tk_panel.proofs.settle.drain.Given as goal
 

@@ -1,7 +1,7 @@
 use Rattle.std.proofs.Common.{◌≡◌, true, refl, sym, ap, ◌∙◌}
 use Rattle.std.specs.Prelude.{None, Some, is_some}
 use Rattle.std.specs.Option.{option_copied}
-use Rattle.tk_after.specs.Timers.{own_of}
+use Rattle.tk_after.specs.Shared.{own_of}
 use Rattle.tk_panel.proofs.Rounds.{first_waits, none_waits}
 use Rattle.tk_panel.proofs.settle.still_waiting.Goals as goal
 

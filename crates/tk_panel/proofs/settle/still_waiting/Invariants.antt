@@ -1,5 +1,5 @@
 use Rattle.std.proofs.Common.{◌≡◌, length}
-use Rattle.tk_panel.specs.Panel.{panel_of}
+use Rattle.tk_panel.specs.Shared.{panel_of}
 use Rattle.tk_panel.specs.Settle.{still_waiting}
 use Rattle.tk_panel.proofs.settle.still_waiting.Given as goal
 

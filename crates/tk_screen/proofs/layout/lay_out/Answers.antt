@@ -1,6 +1,6 @@
 use Rattle.std.proofs.Common.{ap, ◌∙◌}
-use Rattle.tk_tree.specs.Own.{own_of as tree_of}
-use Rattle.tk_screen.specs.Own.{own_of}
+use Rattle.tk_tree.specs.Shared.{own_of as tree_of}
+use Rattle.tk_screen.specs.Shared.{own_of}
 use Rattle.tk_screen.proofs.There.{there_by, laid_by}
 use Rattle.tk_screen.proofs.layout.lay_out.Goals as goal
 

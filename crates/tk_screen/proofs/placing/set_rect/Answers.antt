@@ -1,4 +1,5 @@
-use Rattle.tk_tree.specs.Own.{own_of, window_at}
+use Rattle.tk_tree.specs.Own.{window_at}
+use Rattle.tk_tree.specs.Shared.{own_of}
 use Rattle.tk_screen.proofs.Placed.{placed_by}
 use Rattle.tk_screen.proofs.placing.set_rect.Goals as goal
 

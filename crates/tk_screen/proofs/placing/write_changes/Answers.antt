@@ -1,5 +1,5 @@
 use Rattle.std.proofs.Common.{◌∙◌}
-use Rattle.tk_tree.specs.Own.{own_of}
+use Rattle.tk_tree.specs.Shared.{own_of}
 use Rattle.tk_screen.proofs.Placed.{first_there, later_there, later_changes, all_changed, nothing_left}
 use Rattle.tk_screen.proofs.placing.write_changes.Goals as goal
 

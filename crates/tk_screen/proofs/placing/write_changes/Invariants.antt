@@ -1,6 +1,6 @@
 use Rattle.std.proofs.Common.{◌≡◌, length}
 use Rattle.tk_screen.specs.Placing.{with_changes, AreThere}
-use Rattle.tk_tree.specs.Own.{own_of, LeavesOthers}
+use Rattle.tk_tree.specs.Shared.{own_of, LeavesOthers}
 use Rattle.tk_screen.proofs.placing.write_changes.Given as goal
 
 -- the changes that are left are of windows that are there, and lead to the same

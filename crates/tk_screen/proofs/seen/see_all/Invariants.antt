@@ -1,6 +1,6 @@
 use Rattle.std.proofs.Common.{◌≡◌, ◌++◌, length}
 use Rattle.std.specs.List.{filter_map}
-use Rattle.tk_screen.specs.Own.{own_of}
+use Rattle.tk_screen.specs.Shared.{own_of}
 use Rattle.tk_screen.specs.Reads.{read_at}
 use Rattle.tk_screen.specs.Shapes.{shape_at}
 use Rattle.tk_screen.proofs.seen.see_all.Given as goal

@@ -1,7 +1,8 @@
 use Rattle.std.proofs.Common.{◌≡◌, ℕ, ◌<◌, List, [], ◌++◌, length, get_or, take, ap, ◌∙◌, subst, append_assoc}
 use Rattle.std.specs.Prelude.{flat_map}
 use Rattle.std.specs.Option.{option_map_or}
-use Rattle.tk_after.specs.Timers.{entry_with, ids, own_of}
+use Rattle.tk_after.specs.Timers.{entry_with, ids}
+use Rattle.tk_after.specs.Shared.{own_of}
 use Rattle.tk_screen.specs.Timers.{entry_line}
 use Rattle.tk_screen.proofs.Listed.{lines_more}
 use Rattle.tk_screen.proofs.timers.push_timers.Goals as goal

@@ -1,6 +1,6 @@
 use Rattle.std.proofs.Common.{◌≡◌, ◌++◌, take}
 use Rattle.std.specs.Prelude.{flat_map}
-use Rattle.tk_after.specs.Timers.{own_of}
+use Rattle.tk_after.specs.Shared.{own_of}
 use Rattle.tk_screen.specs.Timers.{entry_line}
 use Rattle.tk_screen.proofs.timers.push_timers.Given as goal
 

@@ -1,6 +1,6 @@
 use Rattle.std.proofs.Common.{◌≡◌, ◌++◌, take}
 use Rattle.std.specs.Prelude.{flat_map}
-use Rattle.tk_screen.specs.Own.{own_of}
+use Rattle.tk_screen.specs.Shared.{own_of}
 use Rattle.tk_screen.specs.Shapes.{pre_order}
 use Rattle.tk_screen.specs.Tree.{line_at}
 use Rattle.tk_screen.proofs.tree.push_tree.Given as goal

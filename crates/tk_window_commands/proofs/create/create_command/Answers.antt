@@ -1,4 +1,4 @@
-use Rattle.tk_screen.specs.Own.{own_of}
+use Rattle.tk_screen.specs.Shared.{own_of}
 use Rattle.tk_window_commands.proofs.Answered.{done_by}
 use Rattle.tk_window_commands.proofs.create.create_command.Goals as goal
 

@@ -1,6 +1,6 @@
 use Rattle.tk_options.specs.Options.{settings}
 use Rattle.tk_options.specs.Rows.{options_of}
-use Rattle.tk_screen.specs.Own.{own_of}
+use Rattle.tk_screen.specs.Shared.{own_of}
 use Rattle.tk_window_commands.specs.Create.{configured_new}
 use Rattle.tk_window_commands.proofs.Made.{window_made}
 use Rattle.tk_window_commands.proofs.create.make.Goals as goal

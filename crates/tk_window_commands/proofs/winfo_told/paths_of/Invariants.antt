@@ -1,6 +1,6 @@
 use Rattle.std.proofs.Common.{◌≡◌, ◌++◌, length}
 use Rattle.std.specs.Prelude.{map}
-use Rattle.tk_tree.specs.Own.{own_of as tree_of}
+use Rattle.tk_tree.specs.Shared.{own_of as tree_of}
 use Rattle.tk_window_commands.specs.Winfo.{path_at}
 use Rattle.tk_window_commands.proofs.winfo_told.paths_of.Given as goal
 

@@ -3,7 +3,7 @@ use Rattle.tk_alias.specs.declared.service.Service.{Service}
 use Rattle.tk_alias.specs.Services.{answer_of}
 use Rattle.tk_session.specs.Session.{IsSession}
 use Rattle.tkhost.specs.Output.{AppendsFront}
-use Rattle.tkhost.specs.Play.{sections_of}
+use Rattle.tkhost.specs.Sections.{sections_of}
 use Rattle.tkhost.proofs.Refusal.{all_read, told_fault}
 use Rattle.tkhost.proofs.program.run.Goals as goal
 

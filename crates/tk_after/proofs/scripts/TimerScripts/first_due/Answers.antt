@@ -5,7 +5,8 @@ use Rattle.std.specs.Map.{keys_of}
 use Rattle.std.proofs.lemmas.Bool.{false≢true}
 use Rattle.std.proofs.lemmas.List.Elements.{recursion_from_All}
 use Rattle.tk_after.specs.Keys.{Stored, bag_of, due_cmp, entries_in}
-use Rattle.tk_after.specs.Timers.{due_moments, IsNextDue}
+use Rattle.tk_after.specs.Timers.{due_moments}
+use Rattle.tk_after.specs.Shared.{IsNextDue}
 use Rattle.tk_after.proofs.Bags.{stored_of}
 use Rattle.tk_after.proofs.Firsts.{begins, first_next, no_timers, nothing_first}
 use Rattle.tk_after.proofs.scripts.TimerScripts.first_due.Goals as goal

@@ -1,6 +1,7 @@
 use Rattle.std.proofs.Common.{◌≡◌, None, refl, sym, ap, ◌∙◌, subst, option_map}
 use Rattle.tk_after.specs.declared.waiting.WaitingScript.{WaitingScript}
-use Rattle.tk_after.specs.Timers.{Held, own_of, entries_of, entry_with, without}
+use Rattle.tk_after.specs.Timers.{entry_with, without}
+use Rattle.tk_after.specs.Shared.{Held, own_of, entries_of}
 use Rattle.tk_after.proofs.Kept.{removed}
 use Rattle.tk_after.proofs.Told.{marked, nothing_out, rising_in, there, unlisted}
 use Rattle.tk_after.proofs.timers.Timers.cancel.Goals as goal

@@ -1,5 +1,6 @@
 use Rattle.std.proofs.Common.{◌≡◌, None, refl, subst}
-use Rattle.tk_after.specs.Timers.{Held, entries_of, entry_with}
+use Rattle.tk_after.specs.Timers.{entry_with}
+use Rattle.tk_after.specs.Shared.{Held, entries_of}
 use Rattle.tk_after.proofs.Told.{marked, rising_in, unlisted}
 use Rattle.tk_after.proofs.timers.Timers.entry.Goals as goal
 

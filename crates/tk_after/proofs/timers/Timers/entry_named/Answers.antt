@@ -2,7 +2,8 @@ use Rattle.std.proofs.Common.{◌≡◌, None, refl, ◌∙◌, subst}
 use Rattle.std.specs.Str.{bytes_eq}
 use Rattle.tk_after.specs.After.{entry_named, name_of}
 use Rattle.tk_after.specs.Keys.{Mark}
-use Rattle.tk_after.specs.Timers.{Held, entries_of, entry_with}
+use Rattle.tk_after.specs.Timers.{entry_with}
+use Rattle.tk_after.specs.Shared.{Held, entries_of}
 use Rattle.tk_after.proofs.Told.{passes_none, passes_some}
 use Rattle.tk_after.proofs.timers.Timers.entry_named.Goals as goal
 

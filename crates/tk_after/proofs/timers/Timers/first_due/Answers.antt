@@ -1,6 +1,7 @@
 use Rattle.std.proofs.Common.{◌≡◌, Some, sym, ap, ◌∙◌, subst, option_map}
 use Rattle.tk_after.specs.declared.waiting.WaitingScript.{WaitingScript}
-use Rattle.tk_after.specs.Timers.{Held, entries_of, least, due_moments, first_due}
+use Rattle.tk_after.specs.Timers.{least, due_moments, first_due}
+use Rattle.tk_after.specs.Shared.{Held, entries_of}
 use Rattle.tk_after.proofs.Told.{first_told}
 use Rattle.tk_after.proofs.timers.Timers.first_due.Goals as goal
 

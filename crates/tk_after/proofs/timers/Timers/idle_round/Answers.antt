@@ -1,6 +1,7 @@
 use Rattle.std.proofs.Common.{◌≡◌, ℕ, List, ap, ◌∙◌, subst}
 use Rattle.std.specs.Prelude.{IfOk}
-use Rattle.tk_after.specs.Timers.{Held, entries_of, idle_ids}
+use Rattle.tk_after.specs.Timers.{idle_ids}
+use Rattle.tk_after.specs.Shared.{Held, entries_of}
 use Rattle.tk_after.proofs.Told.{idle_told}
 use Rattle.tk_after.proofs.timers.Timers.idle_round.Goals as goal
 

@@ -1,7 +1,8 @@
 use Rattle.std.proofs.Common.{◌≡◌, false, sym, subst}
 use Rattle.tk_base.specs.Bag.{AllBelow}
 use Rattle.tk_after.specs.Keys.{number_of, entries_in, held_by}
-use Rattle.tk_after.specs.Timers.{Held, own_of, is_full}
+use Rattle.tk_after.specs.Timers.{is_full}
+use Rattle.tk_after.specs.Shared.{Held, own_of}
 use Rattle.tk_after.proofs.Kept.{inserted, kept_below, next_unmarked}
 use Rattle.tk_after.proofs.timers.Timers.insert.Goals as goal
 

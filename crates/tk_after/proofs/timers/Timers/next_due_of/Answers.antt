@@ -1,5 +1,6 @@
 use Rattle.std.proofs.Common.{ap, ◌∙◌}
-use Rattle.tk_after.specs.Timers.{Held, entries_of, least, due_moments}
+use Rattle.tk_after.specs.Timers.{least, due_moments}
+use Rattle.tk_after.specs.Shared.{Held, entries_of}
 use Rattle.tk_after.proofs.Earliest.{least_none-answer, least_some-answer}
 use Rattle.tk_after.proofs.Told.{least_told}
 use Rattle.tk_after.proofs.timers.Timers.next_due_of.Goals as goal

@@ -1,7 +1,7 @@
 use Rattle.std.proofs.Common.{sym, ap, ◌∙◌, option_map}
 use Rattle.std.proofs.lemmas.Option.{none-some}
 use Rattle.tk_after.specs.declared.waiting.WaitingScript.{WaitingScript}
-use Rattle.tk_after.specs.Timers.{own_of, entries_of}
+use Rattle.tk_after.specs.Shared.{own_of, entries_of}
 use Rattle.tk_after.proofs.Dues.{first_due-none}
 use Rattle.tk_after.proofs.Told.{first_is, first_script, first_taken, none_first}
 use Rattle.tk_after.proofs.timers.Timers.take_due.Goals as goal

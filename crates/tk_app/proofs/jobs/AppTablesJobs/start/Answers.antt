@@ -1,5 +1,5 @@
 use Rattle.std.proofs.Common.{ap}
-use Rattle.tk_panel.specs.Panel.{panel_of}
+use Rattle.tk_panel.specs.Shared.{panel_of}
 use Rattle.tk_panel.proofs.Others.{left_same}
 use Rattle.tk_commands.specs.Course.{job_started as panel_started}
 use Rattle.tk_app.specs.Seen.{meanings}

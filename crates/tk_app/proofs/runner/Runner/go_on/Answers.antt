@@ -1,6 +1,6 @@
 use Rattle.std.proofs.Common.{sym, ap, ◌∙◌, subst, Ok}
 use Rattle.tcl_interp.specs.Interp.{context_of, left_of, rest_of}
-use Rattle.tk_panel.specs.Panel.{panel_of}
+use Rattle.tk_panel.specs.Shared.{panel_of}
 use Rattle.tk_app.specs.declared.state.AppEnd.{AppEnd}
 use Rattle.tk_app.specs.declared.state.AppEnd.TheVariants.{More, Stopped}
 use Rattle.tk_app.specs.declared.state.AppState.{AppState}

@@ -4,7 +4,7 @@ use Rattle.tk_app.specs.Part.{Part}
 use Rattle.tk_app.specs.Turns.{Applications}
 use Rattle.tk_app.proofs.Slots.{in_range, of_slot}
 use Rattle.tk_app.specs.Application.{next_due_as}
-use Rattle.tk_panel.specs.Panel.{panel_of}
+use Rattle.tk_panel.specs.Shared.{panel_of}
 use Rattle.tk_app.proofs.shared.Shared.next_due.Goals as goal
 
 pub index-runner-requires : goal.index-runner-requires

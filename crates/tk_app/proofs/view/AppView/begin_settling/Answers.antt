@@ -1,6 +1,6 @@
 use Rattle.std.proofs.Common.{◌≡◌, List, ◌<◌, set, ap, ◌∙◌, subst, length, arith, refl}
 use Rattle.tk_app.specs.Part.{Part, settling_as}
-use Rattle.tk_panel.specs.Panel.{panel_of}
+use Rattle.tk_panel.specs.Shared.{panel_of}
 use Rattle.tk_app.specs.Turns.{Applications, BeginsIn, Program, part_of, parts_from}
 use Rattle.tk_app.proofs.Slots.{in_range}
 use Rattle.tk_app.proofs.Views.{one_changed, one_was, slot_held}

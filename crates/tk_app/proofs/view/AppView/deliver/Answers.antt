@@ -1,5 +1,5 @@
 use Rattle.std.proofs.Common.{◌≡◌, ◌<◌, set, refl, ap, ◌∙◌, subst, length, arith, sym, true, false}
-use Rattle.tk_panel.specs.Panel.{panel_of}
+use Rattle.tk_panel.specs.Shared.{panel_of}
 use Rattle.tk_app.specs.Part.{Part}
 use Rattle.tk_app.specs.Turns.{Applications, ChangesPart, DeliversIn, Program, part_of, parts_from}
 use Rattle.tk_app.proofs.Slots.{get_parts, in_range}

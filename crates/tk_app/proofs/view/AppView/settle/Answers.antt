@@ -1,6 +1,6 @@
 use Rattle.std.proofs.Common.{◌++◌, ◌<◌, set, ap, ◌∙◌, subst, length, arith, true, false}
 use Rattle.tk_app.specs.Rounds.{one_turn}
-use Rattle.tk_panel.specs.Panel.{panel_of}
+use Rattle.tk_panel.specs.Shared.{panel_of}
 use Rattle.tk_app.specs.Turns.{Applications, ChangesOnly, Program, SettlesSlot, part_of, parts_from}
 use Rattle.tk_app.proofs.Slots.{in_range}
 use Rattle.tk_app.proofs.Views.{held_kept, one_changed, one_was, only_same, slot_held}

@@ -1,8 +1,9 @@
 use Rattle.std.proofs.Common.{◌≡◌, ◌≤◌, arith, sym, ap, ◌∙◌, subst}
 use Rattle.std.proofs.lemmas.Result.{err_from_is_err_and}
-use Rattle.tk_app.specs.Stages.{IsPast, first_moment_due}
+use Rattle.tk_app.specs.Stages.{first_moment_due}
+use Rattle.tk_app.specs.Due.{IsPast}
 use Rattle.tk_app.specs.Application.{next_due}
-use Rattle.tk_app.specs.Moments.{settled}
+use Rattle.tk_app.specs.MomentsByJob.{settled}
 use Rattle.tk_app.specs.Turns.{Applications}
 use Rattle.tk_host.specs.declared.phase.Phase.TheVariants.{Reached}
 use Rattle.tk_host.specs.Held.{Hosted}

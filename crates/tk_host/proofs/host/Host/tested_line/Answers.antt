@@ -1,10 +1,11 @@
 use Rattle.std.proofs.Common.{◌≡◌, ◌≤◌, ◌<◌, arith, sym, ap, ◌∙◌, subst}
 use Rattle.std.proofs.lemmas.Result.{on_err_weaker}
-use Rattle.tk_app.specs.Stages.{IsPast, first_moment_due}
+use Rattle.tk_app.specs.Stages.{first_moment_due}
+use Rattle.tk_app.specs.Due.{IsPast}
 use Rattle.tk_route.specs.Lines.{at}
 use Rattle.tk_route.specs.Routes.{deliveries}
 use Rattle.tk_app.specs.Application.{next_due}
-use Rattle.tk_app.specs.Moments.{settled}
+use Rattle.tk_app.specs.MomentsByJob.{settled}
 use Rattle.tk_app.specs.Turns.{Applications}
 use Rattle.tk_app.proofs.Views.{on_err}
 use Rattle.tk_host.specs.declared.phase.Phase.TheVariants.{Reached}

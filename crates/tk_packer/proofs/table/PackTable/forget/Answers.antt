@@ -1,5 +1,6 @@
 use Rattle.std.proofs.Common.{ap, ◌∙◌}
-use Rattle.tk_packer.specs.Packs.{own_of, slaves_of}
+use Rattle.tk_packer.specs.Packs.{slaves_of}
+use Rattle.tk_packer.specs.Shared.{own_of}
 use Rattle.tk_packer.proofs.ChangeLemmas.{slaves_of-without}
 use Rattle.tk_packer.proofs.table.PackTable.forget.Goals as goal
 

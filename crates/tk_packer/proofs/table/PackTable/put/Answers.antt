@@ -1,6 +1,7 @@
 use Rattle.std.proofs.Common.{ap, ◌∙◌}
 use Rattle.tk_packer.specs.declared.packed.Packed.{Packed}
-use Rattle.tk_packer.specs.Packs.{own_of, slaves_of}
+use Rattle.tk_packer.specs.Packs.{slaves_of}
+use Rattle.tk_packer.specs.Shared.{own_of}
 use Rattle.tk_packer.proofs.ChangeLemmas.{slaves_of-packed_at, slaves_of-packed_at_other, slaves_of-without}
 use Rattle.tk_packer.proofs.table.PackTable.put.Goals as goal
 

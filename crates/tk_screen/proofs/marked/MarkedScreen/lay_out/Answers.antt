@@ -1,5 +1,5 @@
 use Rattle.std.proofs.Common.{sym}
-use Rattle.tk_screen.specs.Own.{own_of}
+use Rattle.tk_screen.specs.Shared.{own_of}
 use Rattle.tk_screen.proofs.Settled.{nothing_laid}
 use Rattle.tk_screen.proofs.marked.MarkedScreen.lay_out.Goals as goal
 

@@ -1,6 +1,7 @@
 use Rattle.std.proofs.Common.{ap, subst, sym, ◌∙◌}
 use Rattle.std.specs.Prelude.{reverse}
-use Rattle.tk_tree.specs.Own.{IsSound, own_of}
+use Rattle.tk_tree.specs.Own.{IsSound}
+use Rattle.tk_tree.specs.Shared.{own_of}
 use Rattle.tk_tree.proofs.Points.{at_children, from_children}
 use Rattle.tk_tree.proofs.windows.Windows.child_at.Goals as goal
 

@@ -1,6 +1,6 @@
 use Rattle.std.proofs.Common.{◌≡◌, length}
 use Rattle.std.specs.Prelude.{reverse}
-use Rattle.tk_tree.specs.Own.{own_of}
+use Rattle.tk_tree.specs.Shared.{own_of}
 use Rattle.tk_tree.specs.Ways.{at_point}
 use Rattle.tk_tree.proofs.Points.{at_children}
 use Rattle.tk_tree.proofs.windows.Windows.child_at.Given as goal

@@ -1,5 +1,6 @@
 use Rattle.std.proofs.Common.{◌≡◌, ap, ◌∙◌, subst}
-use Rattle.tk_tree.specs.Own.{own_of, child_numbers}
+use Rattle.tk_tree.specs.Own.{child_numbers}
+use Rattle.tk_tree.specs.Shared.{own_of}
 use Rattle.tk_tree.specs.Orders.{below, below_first}
 use Rattle.tk_tree.specs.Walks.{all_below, all_below_first}
 use Rattle.tk_tree.proofs.Orders.{below_children, first_children}

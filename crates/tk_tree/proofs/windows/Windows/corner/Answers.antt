@@ -1,5 +1,6 @@
 use Rattle.std.proofs.Common.{Some, None, subst, sym, arith}
-use Rattle.tk_tree.specs.Own.{IsSound, own_of}
+use Rattle.tk_tree.specs.Own.{IsSound}
+use Rattle.tk_tree.specs.Shared.{own_of}
 use Rattle.tk_tree.proofs.Corners.{IsAddedUp, all_added, falls, near, step_up, top}
 use Rattle.tk_tree.proofs.Ways.{parent_older}
 use Rattle.tk_tree.proofs.windows.Windows.corner.Goals as goal

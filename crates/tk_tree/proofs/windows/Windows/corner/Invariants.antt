@@ -1,6 +1,6 @@
 use Rattle.std.proofs.Common.{suc}
 use Rattle.std.specs.Option.{option_map_or}
-use Rattle.tk_tree.specs.Own.{own_of}
+use Rattle.tk_tree.specs.Shared.{own_of}
 use Rattle.tk_tree.proofs.Corners.{IsAddedUp}
 use Rattle.tk_tree.proofs.windows.Windows.corner.Given as goal
 

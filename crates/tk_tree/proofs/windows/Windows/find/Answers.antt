@@ -1,5 +1,6 @@
 use Rattle.std.proofs.Common.{ℕ, IsSome, option_map, sym, ap, ◌∙◌, ◌≡◌, subst}
-use Rattle.tk_tree.specs.Own.{own_of, window_at, at_path}
+use Rattle.tk_tree.specs.Own.{window_at, at_path}
+use Rattle.tk_tree.specs.Shared.{own_of}
 use Rattle.tk_tree.specs.Window.{number_of}
 use Rattle.tk_tree.proofs.Looks.{number_is, mapped_none, mapped_some, path_window, path_there}
 use Rattle.tk_tree.proofs.windows.Windows.find.Goals as goal

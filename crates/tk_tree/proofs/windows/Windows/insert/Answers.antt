@@ -1,7 +1,8 @@
 use Rattle.std.proofs.Common.{◌≡◌, ◌<◌, false, None, option_map, MatchOption, sym, ap, ◌∙◌, subst}
 use Rattle.tk_tree.specs.Arena.{held_by}
 use Rattle.tk_tree.specs.Create.{with_window}
-use Rattle.tk_tree.specs.Own.{own_of, at_path, is_full}
+use Rattle.tk_tree.specs.Own.{at_path, is_full}
+use Rattle.tk_tree.specs.Shared.{own_of}
 use Rattle.tk_tree.specs.Window.{number_of}
 use Rattle.tk_tree.proofs.Added.{inserted, undone}
 use Rattle.tk_tree.proofs.Looks.{number_is, next_unused}

@@ -1,5 +1,6 @@
 use Rattle.std.proofs.Common.{subst}
-use Rattle.tk_tree.specs.Own.{IsSound, own_of}
+use Rattle.tk_tree.specs.Own.{IsSound}
+use Rattle.tk_tree.specs.Shared.{own_of}
 use Rattle.tk_tree.proofs.Ways.{parent_older, up_to_none, up_to_parent}
 use Rattle.tk_tree.proofs.windows.Windows.parent_of.Goals as goal
 

@@ -1,6 +1,6 @@
 use Rattle.std.proofs.Common.{◌∙◌}
 use Rattle.std.proofs.Common.{arith}
-use Rattle.tk_tree.specs.Own.{own_of}
+use Rattle.tk_tree.specs.Shared.{own_of}
 use Rattle.tk_tree.proofs.Orders.{begin_up, step_up, less_up, end_up}
 use Rattle.tk_tree.proofs.windows.Windows.post_order.Goals as goal
 

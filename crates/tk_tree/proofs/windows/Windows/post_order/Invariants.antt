@@ -2,7 +2,7 @@ use Rattle.std.proofs.Common.{◌≡◌, ◌++◌, length}
 use Rattle.std.specs.Prelude.{reverse}
 use Rattle.tk_tree.specs.Orders.{post_order}
 use Rattle.tk_tree.specs.Walks.{all_below_first}
-use Rattle.tk_tree.specs.Own.{own_of}
+use Rattle.tk_tree.specs.Shared.{own_of}
 use Rattle.tk_tree.proofs.windows.Windows.post_order.Given as goal
 
 -- those that wait with what is below them, and those visited from the last on

@@ -1,5 +1,5 @@
 use Rattle.std.proofs.Common.{◌++◌, ◌-◌, ◌∷◌, [], ap, append-nil, append_assoc, arith, length, sym, ◌∙◌}
-use Rattle.tk_tree.specs.Own.{own_of}
+use Rattle.tk_tree.specs.Shared.{own_of}
 use Rattle.tk_tree.specs.Ways.{at_point}
 use Rattle.tk_tree.proofs.windows.Windows.push_at.Goals as goal
 

@@ -1,5 +1,6 @@
 use Rattle.std.proofs.Common.{◌≡◌, IsSome, sym, ap, ◌∙◌, subst, []}
-use Rattle.tk_tree.specs.Own.{own_of, window_at, without_window, child_numbers}
+use Rattle.tk_tree.specs.Own.{window_at, without_window, child_numbers}
+use Rattle.tk_tree.specs.Shared.{own_of}
 use Rattle.tk_tree.proofs.Changed.{gone}
 use Rattle.tk_tree.proofs.Looks.{key_held, key_there}
 use Rattle.tk_tree.proofs.Rising.{kept_rising}

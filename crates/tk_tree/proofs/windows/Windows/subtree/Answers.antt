@@ -1,5 +1,5 @@
 use Rattle.std.proofs.Common.{arith}
-use Rattle.tk_tree.specs.Own.{own_of}
+use Rattle.tk_tree.specs.Shared.{own_of}
 use Rattle.tk_tree.proofs.Orders.{begin_down, step_down, less_down, end_down}
 use Rattle.tk_tree.proofs.windows.Windows.subtree.Goals as goal
 

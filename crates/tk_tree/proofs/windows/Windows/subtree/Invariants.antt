@@ -2,7 +2,7 @@ use Rattle.std.proofs.Common.{◌≡◌, ◌++◌, length}
 use Rattle.std.specs.Prelude.{reverse}
 use Rattle.tk_tree.specs.Orders.{subtree}
 use Rattle.tk_tree.specs.Walks.{all_below}
-use Rattle.tk_tree.specs.Own.{own_of}
+use Rattle.tk_tree.specs.Shared.{own_of}
 use Rattle.tk_tree.proofs.windows.Windows.subtree.Given as goal
 
 -- those visited, and those that wait with what is below them

@@ -1,6 +1,6 @@
 use Rattle.std.proofs.Common.{◌++◌, append-nil, ap, sym, ◌∙◌}
 use Rattle.std.specs.Prelude.{reverse}
-use Rattle.tk_tree.specs.Own.{own_of}
+use Rattle.tk_tree.specs.Shared.{own_of}
 use Rattle.tk_tree.specs.Ways.{way_up}
 use Rattle.tk_tree.proofs.Ways.{no_way_up}
 use Rattle.tk_tree.proofs.windows.Windows.way_to.Goals as goal

@@ -1,6 +1,7 @@
 use Rattle.std.proofs.Common.{sym, ap, ◌∙◌}
 use Rattle.std.specs.Option.{option_copied}
-use Rattle.tk_tree.specs.Own.{own_of, window_at}
+use Rattle.tk_tree.specs.Own.{window_at}
+use Rattle.tk_tree.specs.Shared.{own_of}
 use Rattle.tk_tree.proofs.Looks.{key_none, key_some, key_held}
 use Rattle.tk_tree.proofs.windows.Windows.window.Goals as goal
 

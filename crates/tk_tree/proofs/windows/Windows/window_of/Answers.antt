@@ -1,7 +1,8 @@
 use Rattle.std.proofs.Common.{◌≡◌, ◌<◌, Some, sym, ap, ◌∙◌, subst}
 use Rattle.std.specs.Option.{option_copied}
 use Rattle.tk_tree.specs.declared.window.Window.{Window}
-use Rattle.tk_tree.specs.Own.{own_of, window_at, at_path}
+use Rattle.tk_tree.specs.Own.{window_at, at_path}
+use Rattle.tk_tree.specs.Shared.{own_of}
 use Rattle.tk_tree.specs.Window.{number_of}
 use Rattle.tk_tree.proofs.Looks.{number_is, mapped_none, path_window, window_given, lent_given}
 use Rattle.tk_tree.proofs.windows.Windows.window_of.Goals as goal

@@ -1,5 +1,6 @@
 use Rattle.std.proofs.Common.{◌≡◌, drop}
-use Rattle.tk_virtual.specs.Virtual.{LeavesOthers, own_of, without_pairs}
+use Rattle.tk_virtual.specs.Virtual.{without_pairs}
+use Rattle.tk_virtual.specs.Shared.{LeavesOthers, own_of}
 use Rattle.tk_virtual.proofs.table.VirtualTable.delete_pairs.Given as goal
 
 abbrev pub invariant-loop-pair : goal.invariant-loop-pair

@@ -1,0 +1,21 @@
+-- Steps. The bindings of all applications, and one's part of them.
+use Rattle.std.specs.Prelude.{◌≡◌, ◌≢◌, ℕ, nat_eq, List, []}
+use Rattle.std.specs.Option.{option_map_or}
+use Rattle.std.specs.Map.{lookup}
+use Rattle.tk_patterns.specs.declared.binding.Binding.{Binding}
+
+-- all applications' bindings
+abbrev pub Held : Type 0
+Held = List (ℕ × List Binding)
+
+-- an application's
+abbrev pub own_of : ℕ → Held → List Binding
+own_of owner held = option_map_or (λ own. own) (lookup (nat_eq owner) held) []
+
+-- every other application's are as before
+abbrev pub LeavesOthers : ℕ → Held → Held → Type 0
+LeavesOthers owner old new = (other : ℕ) → other ≢ owner → own_of other new ≡ own_of other old
+
+-- every application's are as before
+abbrev pub LeavesAll : Held → Held → Type 0
+LeavesAll old new = (other : ℕ) → own_of other new ≡ own_of other old

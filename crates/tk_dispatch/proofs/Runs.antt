@@ -1,6 +1,6 @@
 -- A script as runs of characters with a `%` behind each.
 use Rattle.std.proofs.Common.{◌≡◌, ◌≢◌, ℕ, suc, ◌+◌, ◌<◌, ◌≤◌, Bool, true, false, nat_eq, List, [], ◌∷◌, ◌++◌, append_assoc, length, length-append, take, drop, get_or, Option, Some, None, lit<, refl, sym, ap, ◌∙◌, subst, arith}
-use Rattle.std.specs.Str.{IsUtf8, IsCharBoundary}
+use Rattle.std.specs.Str.{IsUtf8, IsCharBoundary, byte as letter}
 use Rattle.std.proofs.lemmas.Bool.{eqb-true}
 use Rattle.std.proofs.lemmas.Bool.Decides.{nat_tests}
 use Rattle.std.proofs.lemmas.List.{drop_more, get_or-take, length-take, take-append-drop}
@@ -102,7 +102,7 @@ other_than byte k high low = not_eqb byte k (λ same. omega arith)
 no_field : (byte : ℕ) → 128 ≤ byte → field_named byte ≡ None
 no_field byte high =
     let ne : (k : ℕ) → k < 128 → nat_eq byte k ≡ false = λ k low. other_than byte k high low in
-    rw (ne 87 (lit< tt), ne 84 (lit< tt), ne 116 (lit< tt), ne 115 (lit< tt), ne 120 (lit< tt), ne 121 (lit< tt), ne 88 (lit< tt), ne 89 (lit< tt), ne 98 (lit< tt), ne 75 (lit< tt), ne 65 (lit< tt), ne 119 (lit< tt), ne 104 (lit< tt), ne 100 (lit< tt)) refl
+    rw (ne (letter "W") (lit< tt), ne (letter "T") (lit< tt), ne (letter "t") (lit< tt), ne (letter "s") (lit< tt), ne (letter "x") (lit< tt), ne (letter "y") (lit< tt), ne (letter "X") (lit< tt), ne (letter "Y") (lit< tt), ne (letter "b") (lit< tt), ne (letter "K") (lit< tt), ne (letter "A") (lit< tt), ne (letter "w") (lit< tt), ne (letter "h") (lit< tt), ne (letter "d") (lit< tt)) refl
 
 -- it stands for itself with or without a `%`
 pub itself : (event : Event) (behind : List ℕ) → 0 < length behind → 128 ≤ get_or behind 0 0 → substituted_from event false behind ≡ substituted_from event true behind

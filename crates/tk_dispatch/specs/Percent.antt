@@ -2,6 +2,7 @@
 use Rattle.std.specs.Prelude.{ℕ, ℤ, ◌==◌, if◌then◌else◌, List, [], ◌∷◌, ◌++◌, Option, Some, None, option_map, encode_utf8, codes}
 use Rattle.std.specs.Fmt.{decimal, signed_decimal}
 use Rattle.std.specs.Map.{lookup}
+use Rattle.std.specs.Str.{byte}
 use Rattle.tcl_text.specs.Readings.{list_form}
 use Rattle.tk_sequences.specs.declared.event.Event.{Event}
 use Rattle.tk_sequences.specs.declared.event.EventKind.{EventKind}
@@ -44,23 +45,23 @@ typed_by None = []
 abbrev pub key_text : ℕ → List ℕ
 key_text key = typed_by (character_of key)
 
--- the characters that stand for fields, by their codes: W, T, t, s, x, y, X, Y, b, K, A, w, h and d
+-- the characters that stand for fields
 abbrev pub field_characters : List (ℕ × Field)
 field_characters =
-    (87, Path)
-    ∷ (84, TypeNumber)
-    ∷ (116, Moment)
-    ∷ (115, State)
-    ∷ (120, X)
-    ∷ (121, Y)
-    ∷ (88, RootX)
-    ∷ (89, RootY)
-    ∷ (98, Button)
-    ∷ (75, Key)
-    ∷ (65, KeyText)
-    ∷ (119, Width)
-    ∷ (104, Height)
-    ∷ (100, Detail)
+    (byte "W", Path)
+    ∷ (byte "T", TypeNumber)
+    ∷ (byte "t", Moment)
+    ∷ (byte "s", State)
+    ∷ (byte "x", X)
+    ∷ (byte "y", Y)
+    ∷ (byte "X", RootX)
+    ∷ (byte "Y", RootY)
+    ∷ (byte "b", Button)
+    ∷ (byte "K", Key)
+    ∷ (byte "A", KeyText)
+    ∷ (byte "w", Width)
+    ∷ (byte "h", Height)
+    ∷ (byte "d", Detail)
     ∷ []
 
 abbrev pub field_named : ℕ → Option Field
@@ -92,12 +93,11 @@ replacement event character = shown_or_itself event character (field_named chara
 
 -- ---- the script
 
--- the byte of `%`
 abbrev pub percent : ℕ
-percent = 37
+percent = byte "%"
 
 -- a script with what stands for each `%` and the character behind it; a `%` at the end stays
 unfoldable pub substituted : Event → List ℕ → List ℕ
 substituted event [] = []
-substituted event (byte ∷ []) = byte ∷ []
-substituted event (byte ∷ character ∷ bytes) = if byte == percent then replacement event character ++ substituted event bytes else byte ∷ substituted event (character ∷ bytes)
+substituted event (first ∷ []) = first ∷ []
+substituted event (first ∷ character ∷ bytes) = if first == percent then replacement event character ++ substituted event bytes else first ∷ substituted event (character ∷ bytes)

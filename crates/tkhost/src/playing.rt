@@ -214,7 +214,8 @@ fn write_sections<M: AliasService, W: Write>(
 /// What each application's section is rests on its own name, size, script, budget and aliases, on the events that are routed to it, and on
 /// the moment of the end: on nothing that another does. What is done at a moment is what *Settle*'s equation says, the first item that exists of a
 /// queued event, a due timer, a layout that changes something and a round of idle scripts, again and again: whatever meets that equation gives
-/// these sections.
+/// these sections. `update` in a script is the same without the test for the main window: here it is what the code's job comes to, of which law
+/// `updates` of `tk_app` says the equation.
 pub fn play<M: AliasService, W: Write>(
     alloc: Global,
     session: &Session,

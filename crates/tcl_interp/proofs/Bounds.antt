@@ -222,7 +222,7 @@ pub stepped_same : {S : Type 0} (left : ℕ) (state : State S) (f g : State S �
 stepped_same zero state f g h = refl
 stepped_same (suc left) state f g h = h (record state { steps = left }) (omega arith)
 
-stepped_none : {S : Type 0} (left : ℕ) (state : State S) (f : State S → Outcome S) → left ≤ 0 → stepped left state f ≡ OutOfSteps state
+pub stepped_none : {S : Type 0} (left : ℕ) (state : State S) (f : State S → Outcome S) → left ≤ 0 → stepped left state f ≡ OutOfSteps state
 stepped_none zero state f w = refl
 stepped_none (suc left) state f w = absurd (omega arith)
 
@@ -265,7 +265,7 @@ if_same f g other state true e = e
 if_same f g other state false e = refl
 
 module _ {S : Type 0} (run : List ℕ → State S → Outcome S) (run_falls : Bounded run) where
-  test_same : (test : Test) (f g : Test → State S → Outcome S) (state : State S) → ((after : Test) (state' : State S) → state'.steps ≤ state.steps → f after state' ≡ g after state') → test_meaning run test f state ≡ test_meaning run test g state
+  pub test_same : (test : Test) (f g : Test → State S → Outcome S) (state : State S) → ((after : Test) (state' : State S) → state'.steps ≤ state.steps → f after state' ≡ g after state') → test_meaning run test f state ≡ test_meaning run test g state
   test_same (Holds condition) f g state h =
       and_then_same state.steps (expression_meaning run condition state) (on_value (if_holds (f (Holds condition)) loop_ended)) (on_value (if_holds (g (Holds condition)) loop_ended)) (within_expression run run_falls state.steps condition state (omega arith))
       (λ state' code text le. on_value_same (if_holds (f (Holds condition)) loop_ended) (if_holds (g (Holds condition)) loop_ended) state' code text

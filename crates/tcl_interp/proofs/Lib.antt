@@ -8,6 +8,7 @@ pub mod Finishing
 pub mod IndexLemmas
 pub mod Kept
 pub mod LeavesSame
+pub mod Loops
 pub mod OnwardLemmas
 pub mod Same
 pub mod Settled

@@ -117,7 +117,9 @@ unfoldable pub index_depth : ℕ
 index_depth = most_nested
 
 module _ {S : Type 0} (run : List ℕ → State S → Outcome S) where
-  -- An element: its index is put together, and then it is read. No script is read where more than so many indices stand in one another.
+  -- An element: its index is put together, and then it is read. The depth is there for the recursion alone, and no word of a command comes to its end: a
+  -- text is read as a script only where at most so many indices and brackets stand in one another (`IsScriptOf`), each index here takes one of them, it has
+  -- by itself the pieces that it has in its place, and a bracket's script begins anew.
   abbrev pub element_meaning : ℕ → List ℕ → List ℕ → State S → Outcome S
   element_meaning zero name index state = Ended state Error (message (text_of TooLong))
   element_meaning (suc depth) name index state =

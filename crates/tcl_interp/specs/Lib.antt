@@ -9,6 +9,7 @@ pub mod Finish
 pub mod Interp
 pub mod JobLaws
 pub mod Leaves
+pub mod LoopLaws
 pub mod Meaning
 pub mod Moves
 pub mod Openings

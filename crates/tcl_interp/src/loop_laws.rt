@@ -1,0 +1,14 @@
+//! What a loop is, without a count of how often it may go round. The functions do nothing: their contracts are the laws.
+ghost use Rattle.tcl_interp.specs.LoopLaws.{LoopsGoOn, OnlyLoop, ScriptsTakeNoStepsBack};
+
+/// A loop is a step, its test, its body with what `for` runs behind it, and the loop again with what is left to be tested. Nothing else meets that
+/// equation. How scripts are run is given; it takes no steps back.
+pub fn loops_go_on<S>()
+    ensures equation { LoopsGoOn S }
+    ensures only { OnlyLoop S }
+{}
+
+/// No script ends with more steps left than it was begun with, whatever serves its outside commands: so loops in scripts meet that equation.
+pub fn scripts_take_no_steps_back<S, K>()
+    ensures { ScriptsTakeNoStepsBack S K }
+{}

@@ -19,7 +19,7 @@ ALL_KINDS = ("hello-and-bye", "two-buttons", "three-frames", "destroy-in-destroy
              "press-and-drag-off", "entry-typing", "listbox-click")
 # Tables, and the program that reads each.
 TABLES = {
-    **dict.fromkeys(("commands/few", "expressions/few", "runs/few", "scopes", "scripts/few", "slices", "texts"), TABLES_OF_TCL),
+    **dict.fromkeys(("commands/few", "expressions/few", "kept", "runs/few", "scopes", "scripts/few", "slices", "texts"), TABLES_OF_TCL),
     **dict.fromkeys(("bindings/few", "dispatch/few", "options", "sequences/few", "services/few", "timers", "virtuals", "widgets", "windows/layouts/few",
                      "windows/packings/few", "windows/trees/few"), TABLES_OF_TK),
     **dict.fromkeys(("calls", "inspection"), TABLES_OF_HOSTS),

@@ -1,9 +1,13 @@
 -- Lemmas on the panels of a bench.
 use Rattle.std.proofs.Common.{◌≡◌, ℕ, ◌+◌, ◌<◌, List, [], ◌∷◌, ◌++◌, length, get_or, drop, ap, subst, sym, append_assoc, ◌∙◌}
 use Rattle.std.proofs.lemmas.List.{drop_more, append-nil}
-use Rattle.toml.specs.View.{table_view}
+use Rattle.toml.proofs.Views.{items_view-drop, view-Table}
+use Rattle.toml.specs.Data.{Data, Items, item, no_items}
+use Rattle.toml.specs.View.{items_view, table_view, view}
+use Rattle.toml.specs.declared.value.Value.{Value, Table}
+use Rattle.tk_session.specs.declared.session.AliasLine.{AliasLine}
 use Rattle.tk_session.specs.declared.session.AppBlock.{AppBlock}
-use Rattle.panels_bench.specs.Panels.{ArePanels, IsPanel, IsSide}
+use Rattle.panels_bench.specs.Panels.{AreAliases, ArePanels, IsAlias, IsPanel, IsSide}
 use Rattle.panels_bench.specs.declared.sides.Side.{Side}
 use Rattle.panels_text.specs.declared.table.Part.{Part}
 
@@ -36,3 +40,23 @@ panels_end parts left panels sides gone before =
     let Q : List AppBlock → Type 0 = λ all. ArePanels parts all (sides ++ []) in
     let R : List Side → Type 0 = λ all. ArePanels parts panels all in
     subst R (append-nil sides) (subst Q (append-nil panels) whole)
+
+-- what the values that are left say stands behind what those before said
+abbrev pub AliasesContinue : Items → Items → List AliasLine → Type 0
+AliasesContinue values left aliases = (more : List AliasLine) → AreAliases left more → AreAliases values (aliases ++ more)
+
+pub aliases_step : (values : Items) (all : List Value) (i : ℕ) (d : Value) (inner : _) (aliases next : List AliasLine) (alias : AliasLine) → i < length all → get_or all i d ≡ Table inner → IsAlias (table_view inner) alias
+    → next ≡ aliases ++ alias ∷ [] → AliasesContinue values (items_view (drop i all)) aliases → AliasesContinue values (items_view (drop (i + 1) all)) next
+aliases_step values all i d inner aliases next alias lt is of_alias pushed before more rest =
+    let P : Items → Type 0 = λ left. AreAliases left (alias ∷ more) in
+    let Q : Data → Type 0 = λ value. AreAliases (item value (items_view (drop (i + 1) all))) (alias ∷ more) in
+    let here = subst Q (sym (ap view is ∙ view-Table inner)) (of_alias, rest) in
+    let whole = before (alias ∷ more) (subst P (sym (items_view-drop all i d lt)) here) in
+    let R : List AliasLine → Type 0 = λ front. AreAliases values front in
+    subst R (sym (ap (λ front. front ++ more) pushed ∙ append_assoc aliases (alias ∷ []) more)) whole
+
+pub aliases_end : (values left : Items) (aliases : List AliasLine) → left ≡ no_items → AliasesContinue values left aliases → AreAliases values aliases
+aliases_end values left aliases gone before =
+    let P : Items → Type 0 = λ rest. AreAliases rest [] in
+    let R : List AliasLine → Type 0 = λ all. AreAliases values all in
+    subst R (append-nil aliases) (before [] (subst P (sym gone) tt))

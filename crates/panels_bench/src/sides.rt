@@ -1,13 +1,13 @@
 //! The panels of a bench.
 
-ghost use Rattle.std.specs.Prelude.{◌≡◌, ◌≤◌, Some, option_map, IfErr, IfOk};
+ghost use Rattle.std.specs.Prelude.{◌≡◌, ◌≤◌, codes, Some, option_map, IfErr, IfOk, IfSome};
 ghost use Rattle.std.specs.String.{string_bytes};
 ghost use Rattle.panels_bench.specs.Messages.{label_of};
-ghost use Rattle.panels_bench.specs.Panels.{ArePanels, IsPair, IsPanel, IsRect, IsSide, is_said};
-ghost use Rattle.panels_text.specs.Tables.{IsRefused, value_of};
+ghost use Rattle.panels_bench.specs.Panels.{AreAliasesOf, ArePanels, IsAlias, IsBudget, IsPair, IsPanel, IsRect, IsScript, IsSide, IsSteps, is_said};
+ghost use Rattle.panels_text.specs.Tables.{IsRefused, value_of, values_of};
 ghost use Rattle.tk_session.specs.Reading.{service_kind};
 ghost use Rattle.toml.specs.Data.{string};
-ghost use Rattle.toml.specs.View.{table_view};
+ghost use Rattle.toml.specs.View.{table_view, view};
 
 use panels_text::{Failure, Part, file_beside, in_range, plain_script, serving};
 use std::alloc::{AllocError, Global};
@@ -125,7 +125,9 @@ pub(crate) fn rect(alloc: Global, part: &Part<'_>) -> Result<Rect, Failure>
 }
 
 /// The number that a text spells, up to the greatest budget.
-fn steps_of(text: &str) -> Option<u64> {
+fn steps_of(text: &str) -> Option<u64>
+    ensures { IfSome result (IsSteps text.now) }
+{
     let steps = text.parse::<u64>().ok()?;
     if steps <= MAX_BUDGET {
         Some(steps)
@@ -135,7 +137,9 @@ fn steps_of(text: &str) -> Option<u64> {
 }
 
 /// The budget of `60` or `60/5`.
-fn budget_of(value: &Value) -> Option<Budget> {
+fn budget_of(value: &Value) -> Option<Budget>
+    ensures { IfSome result (IsBudget (Some (view value.now))) }
+{
     let Value::String(text) = value else {
         let total = in_range(value, MAX_BUDGET)?;
         return Some(Budget { total, refill: 0 });
@@ -147,18 +151,17 @@ fn budget_of(value: &Value) -> Option<Budget> {
     })
 }
 
-fn budget(alloc: Global, part: &Part<'_>) -> Result<Budget, Failure> {
-    let found = match part.table.get("steps") {
-        Some(value) => budget_of(value),
-        None => None,
-    };
-    match found {
-        Some(budget) => Ok(budget),
-        None => {
-            let wanted = "steps up to 10000000, as 60, or \"60/5\" where each event gives 5 back";
-            Err(part.refused(alloc, "steps", wanted))
+/// The budget of a panel.
+fn budget(alloc: Global, part: &Part<'_>) -> Result<Budget, Failure>
+    ensures { IfOk result (IsBudget (value_of part.now (codes "steps"))) }
+{
+    if let Some(value) = part.table.get("steps") {
+        if let Some(budget) = budget_of(value) {
+            return Ok(budget);
         }
     }
+    let wanted = "steps up to 10000000, as 60, or \"60/5\" where each event gives 5 back";
+    Err(part.refused(alloc, "steps", wanted))
 }
 
 /// A text of a session; `key` says where it is too long.
@@ -200,7 +203,9 @@ fn kind_of(word: &str) -> Option<ServiceKind>
     }
 }
 
-fn alias(alloc: Global, part: &Part<'_>) -> Result<AliasLine, Failure> {
+fn alias(alloc: Global, part: &Part<'_>) -> Result<AliasLine, Failure>
+    ensures { IfOk result (IsAlias (table_view part.now.table.now)) }
+{
     part.check_keys(alloc, ALIAS_KEYS.as_slice())?;
     let word = needed(alloc, part, "kind")?;
     let Some(kind) = kind_of(word) else {
@@ -217,7 +222,9 @@ fn alias(alloc: Global, part: &Part<'_>) -> Result<AliasLine, Failure> {
     })
 }
 
-fn aliases(alloc: Global, part: &Part<'_>) -> Result<Listing<AliasLine>, Failure> {
+fn aliases(alloc: Global, part: &Part<'_>) -> Result<Listing<AliasLine>, Failure>
+    ensures { IfOk result (AreAliasesOf (values_of (value_of part.now (codes "aliases")))) }
+{
     let wanted = "tables, as [{ name = \"place\", kind = \"const\", config = \"Hall 7\" }]";
     let mut lines = Listing::new(alloc);
     for value in part.array(alloc, "aliases", wanted)? {
@@ -230,7 +237,9 @@ fn aliases(alloc: Global, part: &Part<'_>) -> Result<Listing<AliasLine>, Failure
 }
 
 /// The script of a panel, of a file or of the bench itself.
-fn script<R: Files + AllocGlobal>(rt: &R, part: &Part<'_>) -> Result<Text, Failure> {
+fn script<R: Files + AllocGlobal>(rt: &R, part: &Part<'_>) -> Result<Text, Failure>
+    ensures { IfOk result (IsScript (value_of part.now (codes "script")) (value_of part.now (codes "text"))) }
+{
     let alloc = rt.alloc();
     let script = match (part.text(alloc, "script")?, part.text(alloc, "text")?) {
         (None, Some(text)) => plain_script(alloc, text)?,

@@ -17,7 +17,7 @@ use asking::{first_word, number, words_of};
 use std::alloc::Global;
 use std::str;
 use tcl_text::Text;
-use tk_host::{Aliases, Budget, Host, HostFault, NoAlias, Turn};
+use tk_host::{AliasService, Aliases, Budget, Host, HostFault, NoAlias, Turn};
 
 fn fault_told(alloc: Global, fault: HostFault) -> Result<String> {
     match fault.number() {
@@ -27,7 +27,7 @@ fn fault_told(alloc: Global, fault: HostFault) -> Result<String> {
 }
 
 /// How it is told that memory was refused to a call that runs applications.
-const BREAKS: &str = "!memory";
+pub(crate) const BREAKS: &str = "!memory";
 
 /// What a call that runs applications is told as.
 fn told(alloc: Global, answer: Result<(), HostFault>) -> Result<String> {
@@ -38,7 +38,7 @@ fn told(alloc: Global, answer: Result<(), HostFault>) -> Result<String> {
     }
 }
 
-fn section(alloc: Global, host: &Host<NoAlias>, slot: &str) -> Result<String> {
+fn section<A: AliasService>(alloc: Global, host: &Host<A>, slot: &str) -> Result<String> {
     match host.section(number(slot)?) {
         Ok(bytes) => Ok(String::from_str(alloc, str::from_utf8(bytes.as_slice())?)?),
         Err(fault) => fault_told(alloc, fault),
@@ -61,7 +61,7 @@ fn budget_of(total: &str, refill: &str) -> Result<Budget> {
     })
 }
 
-fn app(alloc: Global, host: &mut Host<NoAlias>, words: &str) -> Result<String>
+fn app<A: AliasService>(alloc: Global, host: &mut Host<A>, words: &str) -> Result<String>
     ensures { host.new.held.phase ≡ host.old.held.phase }
 {
     let parts = words_of(alloc, words, ' ')?;
@@ -83,7 +83,7 @@ fn app(alloc: Global, host: &mut Host<NoAlias>, words: &str) -> Result<String>
 }
 
 /// A call that may come before `start`, once.
-fn early_once(alloc: Global, host: &mut Host<NoAlias>, call: &str) -> Result<String>
+fn early_once<A: AliasService>(alloc: Global, host: &mut Host<A>, call: &str) -> Result<String>
     ensures { host.new.held.phase ≡ host.old.held.phase }
 {
     let (what, words) = first_word(call);
@@ -96,7 +96,7 @@ fn early_once(alloc: Global, host: &mut Host<NoAlias>, call: &str) -> Result<Str
 }
 
 /// A call that may come before `start`, and once more where it was refused memory, which changes nothing.
-fn early(alloc: Global, host: &mut Host<NoAlias>, call: &str) -> Result<String>
+fn early<A: AliasService>(alloc: Global, host: &mut Host<A>, call: &str) -> Result<String>
     ensures { host.new.held.phase ≡ host.old.held.phase }
 {
     if let Ok(told) = early_once(alloc, host, call) {
@@ -105,7 +105,7 @@ fn early(alloc: Global, host: &mut Host<NoAlias>, call: &str) -> Result<String>
     early_once(alloc, host, call)
 }
 
-fn line(alloc: Global, host: &mut Host<NoAlias>, words: &str) -> Result<String>
+fn line<A: AliasService>(alloc: Global, host: &mut Host<A>, words: &str) -> Result<String>
     requires { host.old.held.phase ≢ Adding }
     ensures { OnOk result (host.new.held.phase ≢ Adding) }
 {
@@ -115,7 +115,7 @@ fn line(alloc: Global, host: &mut Host<NoAlias>, words: &str) -> Result<String>
 }
 
 /// A call of a host that was started.
-pub(crate) fn late(alloc: Global, host: &mut Host<NoAlias>, call: &str) -> Result<String>
+pub(crate) fn late<A: AliasService>(alloc: Global, host: &mut Host<A>, call: &str) -> Result<String>
     requires { host.old.held.phase ≢ Adding }
     ensures { OnOk result (host.new.held.phase ≢ Adding) }
 {
@@ -129,14 +129,18 @@ pub(crate) fn late(alloc: Global, host: &mut Host<NoAlias>, call: &str) -> Resul
     }
 }
 
-/// What the calls of a host tell that was refused memory: an error where each is refused with 42, or tells nothing, but `turns`, or else the first that
-/// doesn't.
+/// Whether a host tells this that was refused memory: 42 of a call that is refused, nothing of one that looks at an application, and any turns.
+pub(crate) fn tells_broken(told: &str) -> bool {
+    told == "!42" || told == NONE || told.starts_with("turns")
+}
+
+/// What the calls of a host tell that was refused memory: an error where each tells that, or else the first that doesn't.
 fn broken(alloc: Global, host: &mut Host<NoAlias>, calls: &[&str]) -> Result<String>
     requires { host.old.held.phase ≢ Adding }
 {
     for call in calls.iter() {
         let told = late(alloc, host, call)?;
-        if told.as_str() != "!42" && told.as_str() != NONE && !told.as_str().starts_with("turns") {
+        if !tells_broken(told.as_str()) {
             return Ok(format!(in alloc;
                 "a host that was refused memory answers {call} with {told}"
             )?);
@@ -180,7 +184,7 @@ fn run(alloc: Global, host: &mut Host<NoAlias>, calls: &[&str], all: &mut String
 }
 
 /// A host that takes so many steps in a turn.
-pub(crate) fn host_of(alloc: Global, slice: &str) -> Result<Host<NoAlias>> {
+pub(crate) fn host_of<A: AliasService>(alloc: Global, slice: &str) -> Result<Host<A>> {
     let slice: u64 = number(slice)?;
     if slice == 0 {
         bail!("a turn of no step");
@@ -208,6 +212,6 @@ pub fn answer(alloc: Global, question: &str) -> Result<String> {
     let [slice, calls @ ..] = calls.as_slice() else {
         bail!("no calls");
     };
-    let mut host = host_of(alloc, slice)?;
+    let mut host: Host<NoAlias> = host_of(alloc, slice)?;
     all_told(alloc, &mut host, calls)
 }

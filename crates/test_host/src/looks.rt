@@ -4,7 +4,7 @@ use anyhow::{Result, bail};
 use asking::{number, words_of};
 use std::alloc::Global;
 use tcl_text::Text;
-use tk_host::{Host, Listbox, NoAlias, OptionTable, Widget, WidgetParts, Window};
+use tk_host::{AliasService, Host, Listbox, OptionTable, Widget, WidgetParts, Window};
 
 /// How it is told that something isn't there.
 pub const NONE: &str = "none";
@@ -76,13 +76,17 @@ fn widget_told(
 }
 
 /// The text of the variable that a widget shows.
-fn variable_of<'a>(host: &'a Host<NoAlias>, slot: usize, widget: &Widget) -> Option<&'a Text> {
+fn variable_of<'a, A: AliasService>(
+    host: &'a Host<A>,
+    slot: usize,
+    widget: &Widget,
+) -> Option<&'a Text> {
     host.variable(slot, widget.variable()?)
 }
 
-fn of_widget(
+fn of_widget<A: AliasService>(
     alloc: Global,
-    host: &Host<NoAlias>,
+    host: &Host<A>,
     slot: usize,
     what: &str,
     words: &[&str],
@@ -99,7 +103,12 @@ fn of_widget(
 }
 
 /// What such a call tells.
-pub fn look(alloc: Global, host: &Host<NoAlias>, what: &str, words: &str) -> Result<String> {
+pub fn look<A: AliasService>(
+    alloc: Global,
+    host: &Host<A>,
+    what: &str,
+    words: &str,
+) -> Result<String> {
     let words = words_of(alloc, words, ' ')?;
     let [slot, rest @ ..] = words.as_slice() else {
         bail!("no slot");

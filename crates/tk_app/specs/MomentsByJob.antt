@@ -7,7 +7,7 @@ use Rattle.tk_app.specs.SettleJob.{settle_meaning}
 
 module _ {M : Type 0} (answer : M → Meaning) where
   abbrev pub started : ℕ → List ℕ → Application M → Application M
-  started = started_by settle_meaning
+  started = started_by answer settle_meaning
 
   abbrev pub settled : ℕ → Application M → Application M
-  settled = settled_by settle_meaning
+  settled = settled_by answer settle_meaning

@@ -10,16 +10,16 @@ use Rattle.tk_host.specs.Alone.{after_event_by, after_events_by, alone_by, at_mo
 
 module _ {M : Type 0} (answer : M → Meaning) where
   abbrev pub at_moment : ℕ → Application M → Application M
-  at_moment = at_moment_by settle_meaning
+  at_moment = at_moment_by answer settle_meaning
 
   abbrev pub passed : ℕ → Application M → Application M
-  passed = passed_by settle_meaning
+  passed = passed_by answer settle_meaning
 
   abbrev pub after_event : LocalEvent → Application M → Application M
-  after_event = after_event_by settle_meaning
+  after_event = after_event_by answer settle_meaning
 
   abbrev pub after_events : Spec M → List LocalEvent → Application M
-  after_events = after_events_by settle_meaning
+  after_events = after_events_by answer settle_meaning
 
   abbrev pub alone : Spec M → List LocalEvent → ℕ → Application M
-  alone = alone_by settle_meaning
+  alone = alone_by answer settle_meaning

@@ -16,3 +16,4 @@ pub mod Settle
 pub mod Shared
 pub mod Start
 pub mod Transcript
+pub mod Written

@@ -1,8 +1,5 @@
 -- Steps. What all applications have in the tables that they share, and one's part of it.
-use Rattle.std.specs.Prelude.{◌≡◌, ◌≢◌, ℕ, nat_eq, List, []}
-use Rattle.std.specs.Option.{option_map_or}
-use Rattle.std.specs.Map.{lookup}
-use Rattle.tk_panel.specs.declared.transcript.Line.{Line}
+use Rattle.std.specs.Prelude.{◌≡◌, ℕ}
 use Rattle.tk_after.specs.Shared as timers
 use Rattle.tk_dispatch.specs.Histories as histories
 use Rattle.tk_inputs.specs.Shared as inputs
@@ -12,22 +9,7 @@ use Rattle.tk_screen.specs.Shared as screens
 use Rattle.tk_virtual.specs.Shared as virtuals
 use Rattle.tk_panel.specs.declared.tables.Tables.{Tables}
 use Rattle.tk_panel.specs.Panel.{Panel}
-
--- the transcript of each application that has written
-abbrev pub Written : Type 0
-Written = List (ℕ × List Line)
-
--- the lines of one application, in order
-abbrev pub lines_of : ℕ → Written → List Line
-lines_of owner written = option_map_or (λ own. own) (lookup (nat_eq owner) written) []
-
--- every other application's are as before
-abbrev pub LeavesLines : ℕ → Written → Written → Type 0
-LeavesLines owner old new = (other : ℕ) → other ≢ owner → lines_of other new ≡ lines_of other old
-
--- every application's are as before
-abbrev pub LeavesAllLines : Written → Written → Type 0
-LeavesAllLines old new = (other : ℕ) → lines_of other new ≡ lines_of other old
+use Rattle.tk_panel.specs.Written.{lines_of, LeavesLines}
 
 abbrev pub panel_of : ℕ → Tables → Panel
 panel_of slot tables = record {

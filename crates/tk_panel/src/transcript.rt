@@ -1,6 +1,6 @@
 ghost use Rattle.std.specs.Prelude.{◌≡◌, [], ◌∷◌, ◌++◌, OnErr, OnOk};
 ghost use Rattle.tk_panel.specs.Transcript.{stream_name};
-ghost use Rattle.tk_panel.specs.Shared.{LeavesAllLines, LeavesLines, lines_of};
+ghost use Rattle.tk_panel.specs.Written.{LeavesAllLines, LeavesLines, lines_of};
 
 use std::alloc::{AllocError, Global};
 use std::collections::HashMap;
@@ -85,7 +85,7 @@ pub struct Transcripts {
 }
 
 impl Model for Transcripts {
-    ghost use Rattle.tk_panel.specs.Shared.{Written};
+    ghost use Rattle.tk_panel.specs.Written.{Written};
 
     ghost Value = { Written };
 

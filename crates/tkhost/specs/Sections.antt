@@ -12,10 +12,10 @@ use Rattle.tkhost.specs.Play.{sections_by, sections_in_by, services_in, specs_of
 
 module _ {M : Type 0} (answer : M → Meaning) where
   abbrev pub sections_in : Plan → List (List (List ℕ × M)) → List (List ℕ)
-  sections_in = sections_in_by settle_meaning
+  sections_in = sections_in_by answer settle_meaning
 
   abbrev pub sections_of : Plan → List (List (List ℕ × M)) → List ℕ
-  sections_of = sections_by settle_meaning
+  sections_of = sections_by answer settle_meaning
 
   -- Two sessions that end at the same moment, and have an application each with the same spec, be it in two places, to which the same events are
   -- routed, give it the same bytes, whatever else they say.

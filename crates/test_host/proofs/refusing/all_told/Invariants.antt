@@ -4,4 +4,4 @@ use Rattle.test_host.proofs.refusing.all_told.Given as goal
 
 -- the host goes on
 abbrev pub invariant-loop-call : goal.invariant-loop-call
-invariant-loop-call l = l.host.held.phase ≢ Adding
+invariant-loop-call g l = l.host.held.phase ≢ Adding

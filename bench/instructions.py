@@ -14,7 +14,7 @@ TURNS = {
     "appending": ("grow 180", (1, 3), lambda n: 12_000 * n, "piece appended"),
     "arrays": ("count 1000000", (5_000, 15_000), lambda n: n, "key counted"),
     "foreach-switch": ("< 40000", (300, 900), lambda n: 10 * n, "item told apart"),
-    "nested-loops": ("sum 1400", (100, 200), lambda n: n * n, "turn of the inner loop"),
+    "nested-loops": ("sum 1400", (100, 200), lambda n: n * n, "iteration of the inner loop"),
     "recursive-procedures": ("< 120", (2, 8), lambda n: n, "value of ackermann 2 6"),
     "sorted-lists": ("< 80", (1, 3), lambda n: n, "list of 4,000 items"),
     "strings": ("< 6000", (50, 150), lambda n: n, "text of 81 characters"),

@@ -8,7 +8,8 @@ use Rattle.std.proofs.lemmas.Bool.{eqb-true, false≢true}
 use Rattle.std.proofs.lemmas.Cmp.{tied_itself}
 use Rattle.std.proofs.lemmas.List.{map-append}
 use Rattle.std.proofs.lemmas.Option.{none-some, same_Some}
-use Rattle.tk_base.specs.Bag.{Item, listed, without, AllBelow, IsRising}
+use Rattle.tk_base.specs.Bag.{Item, listed}
+use Rattle.tk_base.specs.Numbered.{without, AllBelow, IsRising}
 use Rattle.tk_base.proofs.Owners.{item, listed_new, listed_gone, listed_other, listed_found}
 use Rattle.tk_after.specs.declared.waiting.WaitingScript.{WaitingScript}
 use Rattle.tk_after.specs.declared.keys.DueKey.{DueKey}

@@ -4,7 +4,7 @@ use Rattle.std.specs.Prelude.{◌==◌, find, filter, option_map, is_none, IfSom
 use Rattle.std.specs.List.{cons_option, filter_map}
 use Rattle.std.proofs.lemmas.Bool.{eqb-true, eq-eqb, ne_eqb, false≢true}
 use Rattle.std.proofs.lemmas.Option.{none-some, same_Some}
-use Rattle.tk_base.specs.Bag.{numbered, without, AllBelow, AllAbove, IsRising}
+use Rattle.tk_base.specs.Numbered.{numbered, without, AllBelow, AllAbove, IsRising}
 use Rattle.tk_base.specs.declared.counter.Counter.{Counter}
 use Rattle.tk_after.specs.declared.waiting.WaitingScript.{WaitingScript}
 use Rattle.tk_after.specs.declared.keys.Name.{Name}

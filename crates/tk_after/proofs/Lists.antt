@@ -3,7 +3,8 @@ use Rattle.std.proofs.Common.{◌≡◌, ℕ, ◌<◌, Bool, true, false, List, 
 use Rattle.std.specs.Prelude.{◌==◌, nat_le, find}
 use Rattle.std.proofs.lemmas.Bool.{eqb-true, eq-eqb, ne_eqb, le-leb}
 use Rattle.std.proofs.lemmas.Option.{none-some, same_Some}
-use Rattle.tk_base.specs.Bag.{Item, insert_in, in_order, listed, numbered, without, AllBelow, AllAbove, IsRising}
+use Rattle.tk_base.specs.Bag.{Item, insert_in, in_order, listed}
+use Rattle.tk_base.specs.Numbered.{numbered, without, AllBelow, AllAbove, IsRising}
 use Rattle.tk_base.proofs.Owners.{item, own_stands}
 
 abbrev pub Has : {X : Type 0} → X → List X → Type 0

@@ -11,7 +11,8 @@ use Rattle.std.specs.declared.ops.Bound.TheVariants.{Included}
 use Rattle.std.proofs.lemmas.Bool.{eqb-true, eq-eqb, ne_eqb}
 use Rattle.std.proofs.lemmas.List.{map-append}
 use Rattle.std.proofs.lemmas.Option.{none-some}
-use Rattle.tk_base.specs.Bag.{values_of, listed, numbered, without, AllBelow, AllAbove, IsRising}
+use Rattle.tk_base.specs.Bag.{values_of, listed}
+use Rattle.tk_base.specs.Numbered.{numbered, without, AllBelow, AllAbove, IsRising}
 use Rattle.tk_base.proofs.Orders.{gone_there}
 use Rattle.tk_base.proofs.Owners.{item, values_of-append, listed_new}
 use Rattle.tk_after.specs.declared.keys.Name.{Name}

@@ -5,7 +5,7 @@ use Rattle.std.specs.List.{filter_map}
 use Rattle.std.specs.Str.{bytes_eq}
 use Rattle.std.proofs.lemmas.Bool.{eq-eqb, ne_eqb}
 use Rattle.std.proofs.lemmas.Option.{none-some, same_Some, option_and_then_some}
-use Rattle.tk_base.specs.Bag.{numbered, without, AllBelow, IsRising}
+use Rattle.tk_base.specs.Numbered.{numbered, without, AllBelow, IsRising}
 use Rattle.tk_base.specs.declared.counter.Counter.{Counter}
 use Rattle.tk_after.specs.declared.waiting.WaitingScript.{WaitingScript}
 use Rattle.tk_after.specs.declared.keys.Name.{Name}

@@ -3,7 +3,7 @@ ghost use Rattle.std.specs.Prelude.{◌≡◌, ◌≢◌, ℕ, ◌==◌, [], ◌
 ghost use Rattle.std.specs.List.{filter_map};
 ghost use Rattle.std.specs.Option.{option_map_or};
 ghost use Rattle.std.specs.Str.{bytes_eq};
-ghost use Rattle.tk_base.specs.Bag.{AllBelow, numbered, without};
+ghost use Rattle.tk_base.specs.Numbered.{AllBelow, numbered, without};
 ghost use Rattle.tk_after.specs.After.{name_of};
 ghost use Rattle.tk_after.specs.Keys.{Mark, marks_in, marks_of, mark_number, lies_due_at};
 ghost use Rattle.tk_after.specs.Timers.{lesser, least};

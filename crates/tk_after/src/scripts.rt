@@ -1,7 +1,7 @@
 //! What waits of all applications: the timers in the order in which they are due, and the idle scripts.
 ghost use Rattle.std.specs.Prelude.{◌≡◌, ◌≢◌, ℕ, List, [], ◌∷◌, ◌++◌, IfSome, IfNone, IsSome, OnOk, OnErr};
 ghost use Rattle.std.specs.Option.{option_copied};
-ghost use Rattle.tk_base.specs.Bag.{AllBelow, IsRising, without};
+ghost use Rattle.tk_base.specs.Numbered.{AllBelow, IsRising, without};
 ghost use Rattle.tk_after.specs.Keys.{entries_in, bag_of, taken, number_of, IsMarked};
 ghost use Rattle.tk_after.specs.Timers.{entry_with, due_moments};
 ghost use Rattle.tk_after.specs.Shared.{Held, IsNextDue};

@@ -1,7 +1,7 @@
 ghost use Rattle.std.specs.Prelude.{◌≡◌, ◌≢◌, ℕ, ◌+◌, ◌^◌, ◌<◌, ◌==◌, false, [], ◌∷◌, ◌++◌, length, map, find, IfOk, IfSome, IfNone, OnOk, OnErr, Some, None, Ok, option_map};
 ghost use Rattle.std.specs.Option.{option_copied, option_map_or};
 ghost use Rattle.std.specs.Str.{bytes_eq};
-ghost use Rattle.tk_base.specs.Bag.{AllBelow, IsRising};
+ghost use Rattle.tk_base.specs.Numbered.{AllBelow, IsRising};
 ghost use Rattle.tk_after.specs.Keys.{entries_in, marks_of, mark_of, mark_number, number_of};
 ghost use Rattle.tk_after.specs.Timers.{is_full, with_entry, entry_with, without, ids, idle_ids, least, IsLeastOf, due_moments, first_due, IsFirstDue, NothingDue};
 ghost use Rattle.tk_after.specs.Shared.{own_of, entries_of, IsKept, IsNextDue, LeavesOthers};

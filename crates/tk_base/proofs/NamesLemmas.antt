@@ -1,5 +1,7 @@
--- What the table of names has: 128 names, each once.
+-- What the list of names has: 128 names, each once, and the table has the same.
 use Rattle.std.proofs.Common.{◌≡◌, ℕ, ◌<◌, length, List, [], Option, Some, unwrap_or, slice_get, map, refl, ap, sym, ◌∙◌, zero-add, arith}
+use Rattle.std.specs.Prelude.{nat_le}
+use Rattle.std.proofs.lemmas.Bool.Decides.{nat_tests}
 use Rattle.std.proofs.lemmas.List.FromFn.{length-enumerate_from, get_or-enumerate_from}
 use Rattle.std.proofs.lemmas.List.Quantifiers.{position-Some}
 use Rattle.std.proofs.lemmas.Option.{slice_get-map, slice_get-get_or, unwrap_or-slice_get}
@@ -7,15 +9,21 @@ use Rattle.std.proofs.lemmas.Slice.Eq.{bytes_eq-Decides}
 use Rattle.std.specs.List.{enumerate_from}
 use Rattle.std.specs.Option.{option_map}
 use Rattle.std.specs.Str.{bytes_eq}
-use Rattle.tk_base.specs.Names.{key_names, key_named, name_of}
+use Rattle.tk_base.specs.Names.{all_names, key_named, name_of, is_modifier}
+use Rattle.tk_base.specs.Table.{key_names}
 
-pub length_key_names : length key_names ≡ 128
-unfolding key_names
-length_key_names = refl
+pub length_all_names : length all_names ≡ 128
+unfolding all_names
+length_all_names = refl
+
+-- the table that the code looks keys up in has these names
+pub table_names : key_names ≡ all_names
+unfolding key_names all_names
+table_names = refl
 
 -- each name leads to its own place
-places : map key_named key_names ≡ map (λ numbered. Some numbered.0) (enumerate_from 0 key_names)
-unfolding key_names
+places : map key_named all_names ≡ map (λ numbered. Some numbered.0) (enumerate_from 0 all_names)
+unfolding all_names
 places = refl
 
 -- what leads each item of a list to its place leads the item at a place there
@@ -34,9 +42,13 @@ leads_back f names same key inside =
     rw name (cc)
 
 pub named-name : (key : ℕ) → key < 128 → key_named (name_of key) ≡ Some key
-named-name key inside = leads_back key_named key_names places key (omega (arith, length_key_names))
+named-name key inside = leads_back key_named all_names places key (omega (arith, length_all_names))
 
 pub name-named : (name : List ℕ) (key : ℕ) → key_named name ≡ Some key → name_of key ≡ name
 name-named name key led =
-    unwrap_or-slice_get key_names key []
-    ∙ (bytes_eq-Decides _ _).0 (position-Some (λ known. bytes_eq known name) key_names key [] led).1
+    unwrap_or-slice_get all_names key []
+    ∙ (bytes_eq-Decides _ _).0 (position-Some (λ known. bytes_eq known name) all_names key [] led).1
+
+-- the keys that modify others stand behind all others
+pub modifiers_last : (key : ℕ) → key < 128 → nat_le 121 key ≡ is_modifier key
+modifiers_last key inside = grind (arith, nat_tests)

@@ -2,7 +2,8 @@
 use Rattle.std.proofs.Common.{◌≡◌, ℕ, ◌<◌, ◌≤◌, Bool, true, false, List, [], ◌∷◌, ◌++◌, Some, refl, sym, ap, ◌∙◌, subst, arith}
 use Rattle.std.specs.Prelude.{nat_le}
 use Rattle.std.proofs.lemmas.Bool.{eq-eqb, leb-true, leb-false, le-leb, lt-leb, ne_eqb}
-use Rattle.tk_base.specs.Bag.{insert_in, in_order, numbered, without, changed_at, AllBelow, AllAbove, IsRising}
+use Rattle.tk_base.specs.Bag.{insert_in, in_order}
+use Rattle.tk_base.specs.Numbered.{numbered, without, changed_at, AllBelow, AllAbove, IsRising}
 
 module _ {X : Type 0} (number : X → ℕ) where
   -- each number is this one or above it

@@ -3,7 +3,8 @@ use Rattle.std.proofs.Common.{◌≡◌, ◌≢◌, ℕ, Bool, true, false, List
 use Rattle.std.specs.Prelude.{◌==◌, find, nat_le}
 use Rattle.std.proofs.Common.{append-nil}
 use Rattle.std.proofs.lemmas.Bool.{eqb-true, eq-eqb, ne_eqb}
-use Rattle.tk_base.specs.Bag.{Item, values_of, NonePasses, insert_in, in_order, listed, numbered, without, changed_at, AllBelow, IsRising}
+use Rattle.tk_base.specs.Bag.{Item, values_of, NonePasses, insert_in, in_order, listed}
+use Rattle.tk_base.specs.Numbered.{numbered, without, changed_at, AllBelow, IsRising}
 use Rattle.tk_base.proofs.Orders.{Stands, stands, found_there, gone_there, changed_there, nothing_behind}
 
 module _ {X : Type 0} where

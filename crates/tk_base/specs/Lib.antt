@@ -5,4 +5,6 @@ pub mod Kind
 pub mod Limits
 pub mod Line
 pub mod Names
+pub mod Numbered
 pub mod Rect
+pub mod Table

@@ -1,9 +1,7 @@
--- Meaning. Keys by their names and by the characters that they type. A key is its number in the table of names.
-use Rattle.std.specs.Prelude.{ℕ, ◌+◌, ◌-◌, ◌==◌, ◌&&◌, nat_le, if◌then◌else◌, List, [], ◌∷◌, ◌++◌, Option, Some, None, position, slice_get, unwrap_or, codes}
-use Rattle.std.specs.List.{slice_split}
+-- Meaning. Keys by their names and by the characters that they type. A key is its place in the list of names.
+use Rattle.std.specs.Prelude.{ℕ, ◌+◌, ◌-◌, ◌==◌, ◌&&◌, Bool, nat_le, if◌then◌else◌, List, [], ◌∷◌, ◌++◌, Option, Some, None, position, slice_get, unwrap_or, codes}
+use Rattle.std.specs.List.{list_any, slice_split}
 use Rattle.std.specs.Str.{bytes_eq}
-use Rattle.std.specs.Str.Lines.{lines}
-use Rattle.tk_base.specs.declared.names.TheConstants.{NAMES}
 
 -- names that stand in a text, a blank between each two
 abbrev pub names_in : List ℕ → List (List ℕ)
@@ -24,19 +22,15 @@ all_names =
     ++ names_in (codes "F1 F2 F3 F4 F5 F6 F7 F8 F9 F10 F11 F12")
     ++ names_in (codes "Shift_L Shift_R Control_L Control_R Alt_L Alt_R Caps_Lock")
 
--- the names in the table, a line each: these are all of them, as the law `table_has_all_names` says
-unfoldable pub key_names : List (List ℕ)
-key_names = lines NAMES.now
-
 -- the name of a key
 abbrev pub name_of : ℕ → List ℕ
-name_of key = unwrap_or (slice_get key_names key) []
+name_of key = unwrap_or (slice_get all_names key) []
 
 -- the key of a name
 abbrev pub key_named : List ℕ → Option ℕ
-key_named name = position (λ known. bytes_eq known name) key_names
+key_named name = position (λ known. bytes_eq known name) all_names
 
--- a printing ASCII character stands in the table where it stands in ASCII, the blank first
+-- a printing ASCII character stands in the list where it stands in ASCII, the blank first
 abbrev pub key_of_character : ℕ → Option ℕ
 key_of_character character = if nat_le 32 character && nat_le character 126 then Some (character - 32) else None
 
@@ -68,3 +62,7 @@ alt_right = 126
 
 abbrev pub caps_lock : ℕ
 caps_lock = 127
+
+-- the keys that are held while others are pressed, or change what they mean
+abbrev pub is_modifier : ℕ → Bool
+is_modifier key = list_any (λ other. other == key) (shift_left ∷ shift_right ∷ control_left ∷ control_right ∷ alt_left ∷ alt_right ∷ caps_lock ∷ [])

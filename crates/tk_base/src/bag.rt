@@ -4,7 +4,8 @@
 //!
 //! The functions do nothing: their contracts are the laws, for any type of values and any way to number them.
 ghost use Rattle.std.specs.Prelude.{◌≡◌, ◌≢◌, ℕ, Bool, List, [], ◌∷◌, ◌++◌, Some, None, find};
-ghost use Rattle.tk_base.specs.Bag.{Item, NonePasses, listed, numbered, without, changed_at, AllBelow, IsRising};
+ghost use Rattle.tk_base.specs.Bag.{Item, NonePasses, listed};
+ghost use Rattle.tk_base.specs.Numbered.{numbered, without, changed_at, AllBelow, IsRising};
 
 /// An item whose number is above all of its owner's comes last in the owner's list, wherever it stands in the bag.
 pub fn new_comes_last<T>()

@@ -20,8 +20,8 @@ impl Model for Keysym {
 }
 
 impl Keysym {
-    ghost use Rattle.std.specs.Prelude.{◌≡◌, nat_le};
-    ghost use Rattle.tk_base.specs.Names.{name_of, key_named, key_of_character, character_of};
+    ghost use Rattle.std.specs.Prelude.{◌≡◌};
+    ghost use Rattle.tk_base.specs.Names.{name_of, key_named, key_of_character, character_of, is_modifier};
 
     pub const SHIFT_L: Keysym = Keysym { index: 121 };
 
@@ -37,7 +37,7 @@ impl Keysym {
 
     pub const CAPS_LOCK: Keysym = Keysym { index: 127 };
 
-    #[tactic(auto, using(crate::proofs::NamesLemmas::length_key_names), unfolding(crate::specs::Names::key_names))]
+    #[tactic(auto, using(crate::proofs::NamesLemmas::length_all_names, crate::proofs::NamesLemmas::table_names), unfolding(crate::specs::Table::key_names))]
     /// The key of this name, if there is one.
     pub fn named(name: &str) -> Option<Keysym>
         ensures { result ≡ key_named name.now }
@@ -49,7 +49,7 @@ impl Keysym {
     }
 
     /// Its name.
-    #[tactic(auto, unfolding(crate::specs::Names::key_names))]
+    #[tactic(auto, using(crate::proofs::NamesLemmas::table_names), unfolding(crate::specs::Table::key_names))]
     pub fn name(self) -> &'static str
         ensures { result.now ≡ name_of self }
     {
@@ -84,8 +84,9 @@ impl Keysym {
     }
 
     /// Whether it is held while others are pressed, or changes what they mean: a shift, control or alt key, or the lock of capitals.
+    #[tactic(auto, using(crate::proofs::NamesLemmas::modifiers_last))]
     pub fn is_modifier(self) -> bool
-        ensures { result ≡ nat_le 121 self }
+        ensures { result ≡ is_modifier self }
     {
         self.index >= 121
     }

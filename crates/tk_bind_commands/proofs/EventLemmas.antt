@@ -1,7 +1,8 @@
 -- A refusal of virtual events, and what is told of it.
 use Rattle.std.proofs.Common.{◌≡◌, ℕ, Some, sym, ap, ◌∙◌}
 use Rattle.tcl_text.specs.Answers.{Answer, fails}
-use Rattle.tk_bind_commands.specs.Event.{IsRefusal, become}
+use Rattle.tk_bind_commands.specs.Event.{become}
+use Rattle.tk_bind_commands.specs.Steps.{IsRefusal}
 use Rattle.tk_bind_commands.specs.Words.{or_virtual_fault}
 use Rattle.tk_virtual.specs.declared.fault.VirtualFault.{VirtualFault}
 use Rattle.tk_virtual.specs.FaultTexts.{fault_number, fault_text}

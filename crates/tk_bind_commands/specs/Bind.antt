@@ -1,8 +1,6 @@
 -- Meaning. The command `bind` (bind(n)): what it answers, and what the application has bound then.
-use Rattle.std.specs.Prelude.{◌≡◌, ℕ, Bool, true, false, ◌==◌, List, [], ◌∷◌, ◌++◌, map, Option, None, Some, Result, Ok, Err, if◌then◌else◌, codes}
-use Rattle.std.specs.Option.{option_map_or}
-use Rattle.tcl_text.specs.Answers.{Answer, Gives, ◌>>=◌, answers, wrong_args}
-use Rattle.tcl_text.specs.declared.commands.answers.Refusal.{Refusal}
+use Rattle.std.specs.Prelude.{ℕ, Bool, true, false, ◌==◌, List, [], ◌∷◌, ◌++◌, map, Option, None, Some, Result, Ok, Err, if◌then◌else◌, codes, unwrap_or}
+use Rattle.tcl_text.specs.Answers.{Answer, ◌>>=◌, answers, wrong_args}
 use Rattle.tcl_text.specs.Readings.{list_form}
 use Rattle.tk_bind_commands.specs.Words.{or_sequence_fault, tag_or_error}
 use Rattle.tk_patterns.specs.declared.binding.Binding.{Binding}
@@ -35,7 +33,7 @@ sequence_words windows tag word = do
   or_sequence_fault (parsed word)
 
 abbrev pub script_told : List ℕ → Sequence → List Binding → List ℕ
-script_told tag sequence own = option_map_or (λ script. script) (script_of tag sequence own) []
+script_told tag sequence own = unwrap_or (script_of tag sequence own) []
 
 abbrev pub script_words : Tree → List ℕ → List ℕ → List Binding → Answer
 script_words windows tag word own = do
@@ -85,12 +83,3 @@ bind_words windows (tag ∷ []) own = (own, list_words windows tag own)
 bind_words windows (tag ∷ sequence ∷ []) own = (own, script_words windows tag sequence own)
 bind_words windows (tag ∷ sequence ∷ script ∷ []) own = with_word tag (sequence_words windows tag sequence) script own
 bind_words windows _ own = (own, wrong_args (codes "bind tag ?sequence? ?script?"))
-
--- ── steps ──
-
--- `with_script` and `with_word` of a step that gave or refused a script, or a sequence
-abbrev pub IsWithScript : List ℕ → Sequence → Result (List ℕ) Refusal → List Binding → Told → Type 0
-IsWithScript tag sequence given own told = (script : Answer) → Gives given script → told ≡ with_script tag sequence script own
-
-abbrev pub IsWithWord : List ℕ → Result Sequence Refusal → List ℕ → List Binding → Told → Type 0
-IsWithWord tag given word own told = (sequence : Result Sequence (List ℕ)) → Gives given sequence → told ≡ with_word tag sequence word own

@@ -1,7 +1,6 @@
 -- Meaning. The command `bindtags` (bindtags(n)): what it answers, and what windows the application has then.
-use Rattle.std.specs.Prelude.{◌≡◌, ℕ, List, [], ◌∷◌, Option, None, Some, Result, Ok, Err, codes}
-use Rattle.tcl_text.specs.Answers.{Answer, Gives, answers, items_in, wrong_args}
-use Rattle.tcl_text.specs.declared.commands.answers.Refusal.{Refusal}
+use Rattle.std.specs.Prelude.{ℕ, List, [], ◌∷◌, Option, None, Some, Result, Ok, Err, codes}
+use Rattle.tcl_text.specs.Answers.{Answer, answers, items_in, wrong_args}
 use Rattle.tcl_text.specs.Readings.{list_form}
 use Rattle.tk_tree.specs.declared.window.Window.{Window}
 use Rattle.tk_tree.specs.Change.{with_tags}
@@ -30,9 +29,3 @@ unfoldable pub bindtags_words : List (List ℕ) → Tree → Told
 bindtags_words (path ∷ []) own = (own, tags_told path (at_path path own))
 bindtags_words (path ∷ list ∷ []) own = with_list path list (at_path path own) own
 bindtags_words _ own = (own, wrong_args (codes "bindtags path ?list?"))
-
--- ── steps ──
-
--- `with_items` of a step that gave or refused a list
-abbrev pub IsWithItems : ℕ → Result (List (List ℕ)) Refusal → Tree → Told → Type 0
-IsWithItems number given own told = (items : Result (List (List ℕ)) (List ℕ)) → Gives given items → told ≡ with_items number items own

@@ -1,12 +1,11 @@
 -- Meaning. The command `event` (event(n)) without `generate`: what it answers, and what virtual events the application has then.
-use Rattle.std.specs.Prelude.{◌≡◌, ◌≢◌, ℕ, List, [], ◌∷◌, Result, Ok, Err, if◌then◌else◌, codes}
+use Rattle.std.specs.Prelude.{ℕ, List, [], ◌∷◌, Result, Ok, Err, if◌then◌else◌, codes}
 use Rattle.std.specs.Str.{bytes_eq}
 use Rattle.tcl_text.specs.Answers.{Answer, ◌>>=◌, answers, bad_option, wrong_args}
 use Rattle.tcl_text.specs.Readings.{list_form}
 use Rattle.tk_bind_commands.specs.Words.{or_virtual_fault}
 use Rattle.tk_sequences.specs.Words.{name_in}
 use Rattle.tk_virtual.specs.declared.fault.VirtualFault.{VirtualFault}
-use Rattle.tk_virtual.specs.declared.fault.VirtualFault.TheVariants.{NoMemory}
 use Rattle.tk_virtual.specs.declared.pair.Pair.{Pair}
 use Rattle.tk_virtual.specs.Virtual.{OrFault, all_added, deleted, name_or_fault, written_names, written_of}
 
@@ -51,10 +50,3 @@ event_words (name ∷ words) own =
     else (if bytes_eq name (codes "delete") then delete_words words own
     else (if bytes_eq name (codes "info") then (own, info_words words own)
     else (own, bad_option name)))
-
--- ── steps ──
-
--- what is told where a change gave this fault, unless memory was refused
-abbrev pub IsRefusal : VirtualFault → Answer → Type 0
-IsRefusal fault answer = (own : List Pair) (outcome : OrFault (List Pair))
-    → (fault ≢ NoMemory → outcome ≡ Err fault) → (own, answer) ≡ become own (or_virtual_fault outcome)

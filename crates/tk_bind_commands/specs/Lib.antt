@@ -2,4 +2,5 @@
 pub mod Bind
 pub mod Bindtags
 pub mod Event
+pub mod Steps
 pub mod Words

@@ -3,6 +3,7 @@ ghost use Rattle.std.specs.Prelude.{◌≡◌, ◌++◌, ◌<◌, map, IfOk, OnE
 ghost use Rattle.std.specs.Option.{option_copied};
 ghost use Rattle.tcl_text.specs.Answers.{Gives, answers};
 ghost use Rattle.tk_bind_commands.specs.Bind as spec;
+ghost use Rattle.tk_bind_commands.specs.Steps.{IsWithScript, IsWithWord};
 ghost use Rattle.tk_patterns.specs.Own.{script_of, sequences_of};
 ghost use Rattle.tk_patterns.specs.Shared.{LeavesAll, LeavesOthers, own_of};
 ghost use Rattle.tk_sequences.specs.Writing.{canonical};
@@ -189,7 +190,7 @@ fn bind_word(
     sequence: Result<Sequence, Refusal>,
     word: &Text,
 ) -> Result<Answer, AllocError>
-    ensures own { IfOk result (λ answer. spec.IsWithWord tag.now sequence word.now (own_of slot bindings.old)
+    ensures own { IfOk result (λ answer. IsWithWord tag.now sequence word.now (own_of slot bindings.old)
         (own_of slot bindings.new, answer)) }
     ensures others { LeavesOthers slot bindings.old bindings.new }
     ensures err { OnErr result (LeavesAll bindings.old bindings.new) }
@@ -268,7 +269,7 @@ fn bind_script(
     sequence: Sequence,
     script: Result<Text, Refusal>,
 ) -> Result<Answer, AllocError>
-    ensures own { IfOk result (λ answer. spec.IsWithScript tag.now sequence script (own_of slot bindings.old)
+    ensures own { IfOk result (λ answer. IsWithScript tag.now sequence script (own_of slot bindings.old)
         (own_of slot bindings.new, answer)) }
     ensures others { LeavesOthers slot bindings.old bindings.new }
     ensures err { OnErr result (LeavesAll bindings.old bindings.new) }

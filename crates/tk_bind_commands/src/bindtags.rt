@@ -2,6 +2,7 @@
 ghost use Rattle.std.specs.Prelude.{◌≡◌, IfOk, IsSome, OnErr, Some};
 ghost use Rattle.tcl_text.specs.Answers.{Gives};
 ghost use Rattle.tk_bind_commands.specs.Bindtags as spec;
+ghost use Rattle.tk_bind_commands.specs.Steps.{IsWithItems};
 ghost use Rattle.tk_tree.specs.Own.{at_path, window_at};
 ghost use Rattle.tk_tree.specs.Shared.{LeavesOthers, own_of};
 
@@ -72,7 +73,7 @@ fn set_items(
     items: Result<TextList, Refusal>,
 ) -> Result<Answer, AllocError>
     requires { IsSome (window_at win.number (own_of win.owner windows.old)) }
-    ensures own { IfOk result (λ answer. spec.IsWithItems win.number items (own_of win.owner windows.old)
+    ensures own { IfOk result (λ answer. IsWithItems win.number items (own_of win.owner windows.old)
         (own_of win.owner windows.new, answer)) }
     ensures others { LeavesOthers win.owner windows.old windows.new }
     ensures err { OnErr result (windows.new ≡ windows.old) }

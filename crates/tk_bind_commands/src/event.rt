@@ -2,6 +2,7 @@
 ghost use Rattle.std.specs.Prelude.{◌≡◌, IfOk, OnErr, Ok, Err};
 ghost use Rattle.tcl_text.specs.Answers.{Gives};
 ghost use Rattle.tk_bind_commands.specs.Event as spec;
+ghost use Rattle.tk_bind_commands.specs.Steps.{IsRefusal};
 ghost use Rattle.tk_bind_commands.specs.Words.{or_virtual_fault};
 ghost use Rattle.tk_sequences.specs.Words.{name_in};
 ghost use Rattle.tk_virtual.specs.Virtual.{name_or_fault};
@@ -109,7 +110,7 @@ pub fn event_delete(
 /// The text of a refusal, unless memory was refused.
 #[tactic(auto, using(crate::proofs::EventLemmas::refusal_told))]
 fn refused(alloc: Global, fault: &VirtualFault) -> Result<Answer, AllocError>
-    ensures { IfOk result (λ answer. spec.IsRefusal fault.now answer) }
+    ensures { IfOk result (λ answer. IsRefusal fault.now answer) }
 {
     match fault.number() {
         Some(_number) => answered(virtual_refused(alloc, fault)),

@@ -1,7 +1,5 @@
 -- Meaning. What the commands do that class bindings run.
-use Rattle.std.specs.Prelude.{◌≡◌, ℕ, List, Result, Ok, Err}
-use Rattle.tcl_text.specs.Answers.{Gives}
-use Rattle.tcl_text.specs.declared.commands.answers.Refusal.{Refusal}
+use Rattle.std.specs.Prelude.{ℕ, List, Result, Ok, Err}
 use Rattle.tcl_vars.specs.Store.{Store}
 use Rattle.tk_class_commands.specs.Buttons as buttons
 use Rattle.tk_class_commands.specs.declared.requests.ClassRequest.{ClassRequest}
@@ -36,10 +34,3 @@ requested moment (Err text) own arrivals store = done own arrivals store (error 
 -- the words behind the command's name, at a moment
 unfoldable pub class_command_done : ClassCommand → List (List ℕ) → ℕ → Windowing → Arrivals → Store → Done
 class_command_done command words moment own arrivals store = requested moment (target_in command words own) own arrivals store
-
--- ── steps ──
-
--- `requested` of a step that gave or refused a target
-abbrev pub IsRequested : ℕ → Result ClassTarget Refusal → Windowing → Arrivals → Store → Done → Type 0
-IsRequested moment given own arrivals store there =
-    (target : Result ClassTarget (List ℕ)) → Gives given target → there ≡ requested moment target own arrivals store

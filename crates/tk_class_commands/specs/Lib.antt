@@ -6,5 +6,6 @@ pub mod Entries
 pub mod Listboxes
 pub mod Outcomes
 pub mod Requests
+pub mod Steps
 pub mod Table
 pub mod Targets

@@ -33,11 +33,11 @@ told own arrivals outcome = record { own = own; arrivals = arrivals; outcome = o
 
 -- ---- what is asked of a listbox
 
--- how an item is active_selected: in the mode `multiple` it is toggled, else it is the selection
+-- how an item is selected: in the mode `multiple` it is toggled, else it is the selection
 abbrev pub choice_of : ℕ → List OptionEntry → Choice
 choice_of place options = if has_mode (codes "multiple") options then Toggle place else Alone place
 
--- this item becomes active, and is active_selected so
+-- this item becomes active, and is selected so
 abbrev pub effect : ℕ → Option Choice → Option Effect
 effect place choice = Some (record { active = place; choice = choice })
 

@@ -2,7 +2,8 @@
 ghost use Rattle.std.specs.Prelude.{◌≡◌, IfOk};
 ghost use Rattle.tk_class_commands.specs.Commands as spec;
 ghost use Rattle.tk_class_commands.specs.Outcomes.{done};
-ghost use Rattle.tk_inputs.specs.Deliver.{arrivals_of};
+ghost use Rattle.tk_class_commands.specs.Steps.{IsRequested};
+ghost use Rattle.tk_inputs.specs.Shared.{arrivals_of};
 ghost use Rattle.tk_inputs.specs.Shared as inputs_of;
 ghost use Rattle.tk_dispatch.specs.Queue as queue_of;
 ghost use Rattle.tk_screen.specs.Shared.{LeavesOthers, own_of};
@@ -59,7 +60,7 @@ fn requested(
     moment: u64,
     target: Result<ClassTarget, Refusal>,
 ) -> Result<ClassOutcome, AllocError>
-    ensures own { IfOk result (λ outcome. spec.IsRequested moment target (own_of slot screen.old) (arrivals_of slot inputs.old queue.old) scopes.old
+    ensures own { IfOk result (λ outcome. IsRequested moment target (own_of slot screen.old) (arrivals_of slot inputs.old queue.old) scopes.old
         (done (own_of slot screen.new) (arrivals_of slot inputs.new queue.new) scopes.new outcome)) }
     ensures screen { LeavesOthers slot screen.old screen.new }
     ensures inputs { inputs_of.LeavesOthers slot inputs.old inputs.new }

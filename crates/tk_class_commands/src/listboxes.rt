@@ -1,7 +1,7 @@
 //! The commands of the class Listbox (listbox(n)).
 ghost use Rattle.std.specs.Prelude.{◌≡◌, IfOk, OnOk};
 ghost use Rattle.tk_class_commands.specs.Listboxes as spec;
-ghost use Rattle.tk_inputs.specs.Deliver.{arrivals_of};
+ghost use Rattle.tk_inputs.specs.Shared.{arrivals_of};
 ghost use Rattle.tk_inputs.specs.Shared as inputs_of;
 ghost use Rattle.tk_dispatch.specs.Queue as queue_of;
 ghost use Rattle.tk_screen.specs.Shared.{LeavesOthers, own_of};

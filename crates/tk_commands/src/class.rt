@@ -2,7 +2,7 @@
 ghost use Rattle.std.specs.Prelude.{◌≡◌, IfOk};
 ghost use Rattle.tk_class_commands.specs.Commands as class_of;
 ghost use Rattle.tk_class_commands.specs.Outcomes as outcomes_of;
-ghost use Rattle.tk_inputs.specs.Deliver.{arrivals_of};
+ghost use Rattle.tk_inputs.specs.Shared.{arrivals_of};
 ghost use Rattle.tk_inputs.specs.Shared as inputs_of;
 ghost use Rattle.tk_panel.specs.Shared.{LeavesOthers, panel_of};
 ghost use Rattle.tk_commands.specs.Class as spec;

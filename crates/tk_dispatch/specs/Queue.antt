@@ -1,6 +1,5 @@
 -- Steps. The queued events of all applications, and one's part of them, the next one first.
-use Rattle.std.specs.Prelude.{◌≡◌, ◌≢◌, ℕ, nat_eq, List, []}
-use Rattle.std.specs.Option.{option_map_or}
+use Rattle.std.specs.Prelude.{◌≡◌, ◌≢◌, ℕ, nat_eq, List, [], unwrap_or}
 use Rattle.std.specs.Map.{lookup}
 use Rattle.tk_sequences.specs.declared.event.Event.{Event}
 
@@ -10,7 +9,7 @@ Held = List (ℕ × List Event)
 
 -- an application's
 abbrev pub own_of : ℕ → Held → List Event
-own_of owner held = option_map_or (λ own. own) (lookup (nat_eq owner) held) []
+own_of owner held = unwrap_or (lookup (nat_eq owner) held) []
 
 -- every other application's are as before
 abbrev pub LeavesOthers : ℕ → Held → Held → Type 0

@@ -1,5 +1,5 @@
--- Meaning. Which windows the pointer crosses. A window is given by its path: the numbers of its ancestors from the main window on, and then its own.
--- Outside of the application's rectangle the path is empty, so that outside counts as the parent of the main window.
+-- Meaning. Which windows the pointer crosses. A window is given by its way: the numbers of its ancestors from the main window on, and then its own.
+-- Outside of the application's rectangle the way is empty, so that outside counts as the parent of the main window.
 use Rattle.std.specs.Prelude.{◌≢◌, ℕ, ◌==◌, if◌then◌else◌, ◌-◌, List, [], ◌∷◌, ◌++◌, drop, length, map, reverse, take, codes}
 use Rattle.tk_inputs.specs.declared.pointer_event.PointerEvent.{PointerEvent}
 use Rattle.tk_inputs.specs.declared.pointer_event.PointerKind.TheVariants.{Crossing}
@@ -44,7 +44,7 @@ abbrev pub GoApart : List ℕ → List ℕ → Type 0
 GoApart (window ∷ up) (other ∷ down) = window ≢ other
 GoApart _ _ = Unit {0}
 
--- From one window to another, given by their paths. The windows that both paths begin with are told nothing.
+-- From one window to another, given by their ways. The windows that both ways begin with are told nothing.
 abbrev pub crossings_of : List ℕ → List ℕ → List PointerEvent
 crossings_of (window ∷ from) (other ∷ to) = if window == other then crossings_of from to else crossings_between (window ∷ from) (other ∷ to)
 crossings_of from to = crossings_between from to

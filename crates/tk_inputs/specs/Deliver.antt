@@ -9,11 +9,9 @@ use Rattle.tk_inputs.specs.declared.delivery.KeyLine.{KeyLine}
 use Rattle.tk_inputs.specs.declared.events.PointerLine.{PointerLine}
 use Rattle.tk_inputs.specs.declared.inputs.Input.{Input}
 use Rattle.tk_inputs.specs.Events.{key_event, plain_event, pointer_event}
-use Rattle.tk_inputs.specs.Shared as inputs_of
 use Rattle.tk_inputs.specs.declared.pointer_event.PointerEvent.{PointerEvent}
 use Rattle.tk_inputs.specs.declared.pointer.Pointer.{Pointer}
 use Rattle.tk_inputs.specs.Pointer.{moved, moved_told, pressed, pressed_told, released, released_told}
-use Rattle.tk_dispatch.specs.Queue as queue_of
 use Rattle.tk_sequences.specs.declared.event_type.EventType.{EventType}
 use Rattle.tk_sequences.specs.declared.event_type.EventType.TheVariants as types
 use Rattle.tk_tree.specs.declared.window.Window.{Window}
@@ -25,9 +23,6 @@ use Rattle.tk_tree.specs.Ways.{way_at, way_to}
 pub record Arrivals : Type 0 where
   pub input : Input
   pub queue : List Event
-
-abbrev pub arrivals_of : ℕ → inputs_of.Held → queue_of.Held → Arrivals
-arrivals_of slot inputs queue = record { input = inputs_of.own_of slot inputs; queue = queue_of.own_of slot queue }
 
 -- ---- keys, and the host's focus
 

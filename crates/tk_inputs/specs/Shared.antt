@@ -1,8 +1,9 @@
 -- Steps. What all applications keep of their input, and one's part of it.
-use Rattle.std.specs.Prelude.{◌≡◌, ◌≢◌, ℕ, nat_eq, List}
+use Rattle.std.specs.Prelude.{◌≡◌, ◌≢◌, ℕ, nat_eq, List, unwrap_or}
 use Rattle.std.specs.Map.{lookup}
-use Rattle.std.specs.Option.{option_map_or}
+use Rattle.tk_dispatch.specs.Queue as queue_of
 use Rattle.tk_inputs.specs.declared.inputs.Input.{Input}
+use Rattle.tk_inputs.specs.Deliver.{Arrivals}
 use Rattle.tk_inputs.specs.Inputs.{fresh}
 
 -- all applications'
@@ -11,7 +12,7 @@ Held = List (ℕ × Input)
 
 -- an application's
 abbrev pub own_of : ℕ → Held → Input
-own_of owner held = option_map_or (λ input. input) (lookup (nat_eq owner) held) fresh
+own_of owner held = unwrap_or (lookup (nat_eq owner) held) fresh
 
 -- every other application's are as before
 abbrev pub LeavesOthers : ℕ → Held → Held → Type 0
@@ -20,3 +21,7 @@ LeavesOthers owner old new = (other : ℕ) → other ≢ owner → own_of other 
 -- every application's are as before
 abbrev pub LeavesAll : Held → Held → Type 0
 LeavesAll old new = (other : ℕ) → own_of other new ≡ own_of other old
+
+-- an application's, with the events that wait for it
+abbrev pub arrivals_of : ℕ → Held → queue_of.Held → Arrivals
+arrivals_of slot inputs queue = record { input = own_of slot inputs; queue = queue_of.own_of slot queue }

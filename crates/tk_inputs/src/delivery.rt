@@ -3,6 +3,7 @@ ghost use Rattle.std.specs.Prelude.{◌≡◌, ◌++◌, true, false, IfOk, OnOk
 ghost use Rattle.std.specs.List.{flat_map};
 ghost use Rattle.tk_inputs.specs.Deliver as spec;
 ghost use Rattle.tk_inputs.specs.Shared as inputs_of;
+ghost use Rattle.tk_inputs.specs.Shared.{arrivals_of};
 ghost use Rattle.tk_dispatch.specs.Queue as queue_of;
 ghost use Rattle.tk_tree.specs.Shared as tree_of;
 
@@ -29,8 +30,8 @@ pub fn deliver(
     slot: usize,
     event: LocalEvent,
 ) -> Result<(), AllocError>
-    ensures own { OnOk result (spec.arrivals_of slot inputs.new queue.new
-        ≡ spec.arrived event (tree_of.own_of slot windows.now) (spec.arrivals_of slot inputs.old queue.old)) }
+    ensures own { OnOk result (arrivals_of slot inputs.new queue.new
+        ≡ spec.arrived event (tree_of.own_of slot windows.now) (arrivals_of slot inputs.old queue.old)) }
     ensures inputs { inputs_of.LeavesOthers slot inputs.old inputs.new }
     ensures queue { queue_of.LeavesOthers slot queue.old queue.new }
 {
@@ -166,8 +167,8 @@ fn take_focus(
     has_focus: bool,
     moment: u64,
 ) -> Result<(), AllocError>
-    ensures own { OnOk result (spec.arrivals_of slot inputs.new queue.new
-        ≡ spec.focus_taken has_focus moment (tree_of.own_of slot windows.now) (spec.arrivals_of slot inputs.old queue.old)) }
+    ensures own { OnOk result (arrivals_of slot inputs.new queue.new
+        ≡ spec.focus_taken has_focus moment (tree_of.own_of slot windows.now) (arrivals_of slot inputs.old queue.old)) }
     ensures inputs { inputs_of.LeavesOthers slot inputs.old inputs.new }
     ensures queue { queue_of.LeavesOthers slot queue.old queue.new }
 {
@@ -224,8 +225,8 @@ fn move_pointer(
     slot: usize,
     line: PointerLine,
 ) -> Result<(), AllocError>
-    ensures own { OnOk result (spec.arrivals_of slot inputs.new queue.new
-        ≡ spec.moved_by line (tree_of.own_of slot windows.now) (spec.arrivals_of slot inputs.old queue.old)) }
+    ensures own { OnOk result (arrivals_of slot inputs.new queue.new
+        ≡ spec.moved_by line (tree_of.own_of slot windows.now) (arrivals_of slot inputs.old queue.old)) }
     ensures inputs { inputs_of.LeavesOthers slot inputs.old inputs.new }
     ensures queue { queue_of.LeavesOthers slot queue.old queue.new }
 {
@@ -247,8 +248,8 @@ fn press_button(
     button: u32,
     line: PointerLine,
 ) -> Result<(), AllocError>
-    ensures own { OnOk result (spec.arrivals_of slot inputs.new queue.new
-        ≡ spec.pressed_by button line (tree_of.own_of slot windows.now) (spec.arrivals_of slot inputs.old queue.old)) }
+    ensures own { OnOk result (arrivals_of slot inputs.new queue.new
+        ≡ spec.pressed_by button line (tree_of.own_of slot windows.now) (arrivals_of slot inputs.old queue.old)) }
     ensures inputs { inputs_of.LeavesOthers slot inputs.old inputs.new }
     ensures queue { queue_of.LeavesOthers slot queue.old queue.new }
 {
@@ -270,8 +271,8 @@ fn release_button(
     button: u32,
     line: PointerLine,
 ) -> Result<(), AllocError>
-    ensures own { OnOk result (spec.arrivals_of slot inputs.new queue.new
-        ≡ spec.released_by button line (tree_of.own_of slot windows.now) (spec.arrivals_of slot inputs.old queue.old)) }
+    ensures own { OnOk result (arrivals_of slot inputs.new queue.new
+        ≡ spec.released_by button line (tree_of.own_of slot windows.now) (arrivals_of slot inputs.old queue.old)) }
     ensures inputs { inputs_of.LeavesOthers slot inputs.old inputs.new }
     ensures queue { queue_of.LeavesOthers slot queue.old queue.new }
 {

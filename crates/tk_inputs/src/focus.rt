@@ -1,7 +1,7 @@
 //! Which window has the keys (focus(n)).
 ghost use Rattle.std.specs.Prelude.{◌≡◌, [], ◌∷◌, IfOk, OnOk, Ok};
 ghost use Rattle.tcl_text.specs.Answers.{Gives};
-ghost use Rattle.tk_inputs.specs.Deliver.{arrivals_of};
+ghost use Rattle.tk_inputs.specs.Shared.{arrivals_of};
 ghost use Rattle.tk_inputs.specs.Focus as spec;
 ghost use Rattle.tk_inputs.specs.Shared as inputs_of;
 ghost use Rattle.tk_dispatch.specs.Queue as queue_of;

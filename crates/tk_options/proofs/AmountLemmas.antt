@@ -1,6 +1,6 @@
 -- What setting an option does to the amounts.
 use Rattle.std.proofs.Common.{◌≡◌, ◌≤◌, ℕ, ℤ, pos, negsuc, List, [], ◌∷◌, Option, Some, None, Bool, true, false, cond, nat_le, bytes_eq, refl, sym, ap, ◌∙◌, arith}
-use Rattle.std.specs.Prelude.{find, option_map, is_some}
+use Rattle.std.specs.Prelude.{find, option_map, is_some, unwrap_or}
 use Rattle.std.specs.Option.{option_map_or}
 use Rattle.std.proofs.lemmas.Bool.{leb-true}
 use Rattle.std.proofs.lemmas.Slice.Eq.{bytes_eq-Decides}
@@ -9,7 +9,7 @@ use Rattle.tk_options.specs.Entries.{with_option}
 use Rattle.tcl_text.specs.Readings.{integer_of}
 use Rattle.tk_options.specs.Forms.{amount, amount_in, most_amount}
 use Rattle.tk_options.specs.Names.{name_of}
-use Rattle.tk_options.specs.Options.{amount_of, amount_or_zero, first_set, is_named, value_of, with_value}
+use Rattle.tk_options.specs.Options.{amount_of, first_set, is_named, value_of, with_value}
 use Rattle.tk_options.specs.declared.amounts.Amounts.{Amounts}
 use Rattle.tk_options.specs.declared.option.OptionEntry.{OptionEntry}
 use Rattle.tk_options.specs.declared.option.OptionName.{OptionName}
@@ -159,12 +159,12 @@ kept_is TextVariable table n is = absurd (cc)
 
 -- ---- no amount passes the most
 
-amount_bound : (number : Option ℤ) → amount_or_zero (amount number) ≤ most_amount
+amount_bound : (number : Option ℤ) → unwrap_or (amount number) 0 ≤ most_amount
 amount_bound None = omega arith
 amount_bound (Some (negsuc n)) = omega arith
 amount_bound (Some (pos n)) = by (nat_le n most_amount) refl
   where
-    by : (b : Bool) → nat_le n most_amount ≡ b → amount_or_zero (cond b (Some n) None) ≤ most_amount
+    by : (b : Bool) → nat_le n most_amount ≡ b → unwrap_or (cond b (Some n) None) 0 ≤ most_amount
     by true is = leb-true n most_amount is
     by false is = omega arith
 

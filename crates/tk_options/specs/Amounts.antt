@@ -1,9 +1,9 @@
 -- Steps. The amounts among a widget's options as its table keeps them beside the texts.
-use Rattle.std.specs.Prelude.{◌≡◌, ℕ, List, Option, Some, None}
+use Rattle.std.specs.Prelude.{◌≡◌, ℕ, List, Option, Some, None, unwrap_or}
 use Rattle.std.specs.Borrow.{Bor}
 use Rattle.tk_options.specs.Entries.{options_in, AreUnderTheirNames}
 use Rattle.tk_options.specs.Forms.{amount_in}
-use Rattle.tk_options.specs.Options.{amount_of, amount_or_zero}
+use Rattle.tk_options.specs.Options.{amount_of}
 use Rattle.tk_options.specs.declared.amounts.Amounts.{Amounts}
 use Rattle.tk_options.specs.declared.option.OptionEntry.{OptionEntry}
 use Rattle.tk_options.specs.declared.option.OptionName.{OptionName}
@@ -11,7 +11,7 @@ use Rattle.tk_options.specs.declared.option.OptionName.TheVariants.{BorderWidth,
 
 -- the amount that a value spells, or 0
 abbrev pub amount_read : List ℕ → ℕ
-amount_read value = amount_or_zero (amount_in value)
+amount_read value = unwrap_or (amount_in value) 0
 
 -- each is what reading the option's value gives
 abbrev pub amounts_of : List OptionEntry → Amounts

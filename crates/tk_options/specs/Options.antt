@@ -1,5 +1,5 @@
 -- Meaning. The options of one widget: which one a word means, and how they are set and told.
-use Rattle.std.specs.Prelude.{ℕ, ◌<◌, Bool, if◌then◌else◌, List, [], ◌∷◌, length, take, filter, find, fold, Option, Some, None, option_map, Result, Ok, Err}
+use Rattle.std.specs.Prelude.{ℕ, ◌<◌, Bool, if◌then◌else◌, List, [], ◌∷◌, length, take, filter, find, fold, Option, Some, None, option_map, unwrap_or, Result, Ok, Err}
 use Rattle.std.specs.Option.{option_map_or, option_or}
 use Rattle.std.specs.Str.{bytes_eq}
 use Rattle.tcl_text.specs.Readings.{list_form}
@@ -108,13 +108,9 @@ value_meant word table = do
 abbrev pub value_of : OptionName → List OptionEntry → Option (List ℕ)
 value_of option table = option_map (λ entry. entry.value) (find (is_named (name_of option)) table)
 
--- its pixels, columns or lines
-abbrev pub amount_or_zero : Option ℕ → ℕ
-amount_or_zero (Some n) = n
-amount_or_zero None = 0
-
+-- its pixels, columns or lines, or 0
 unfoldable pub amount_of : OptionName → List OptionEntry → ℕ
-amount_of option table = option_map_or (λ value. amount_or_zero (amount_in value)) (value_of option table) 0
+amount_of option table = option_map_or (λ value. unwrap_or (amount_in value) 0) (value_of option table) 0
 
 -- an option as `configure` tells it: its name, its default and its value
 abbrev pub description : OptionEntry → List ℕ

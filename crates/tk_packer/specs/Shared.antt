@@ -1,7 +1,6 @@
 -- Steps. What all applications have packed, and one's part of it.
-use Rattle.std.specs.Prelude.{◌≡◌, ◌≢◌, ℕ, nat_eq, List}
+use Rattle.std.specs.Prelude.{◌≡◌, ◌≢◌, ℕ, nat_eq, List, unwrap_or}
 use Rattle.std.specs.Map.{lookup}
-use Rattle.std.specs.Option.{option_map_or}
 use Rattle.tk_packer.specs.Packs.{Packing, no_packs}
 
 -- what each application has, by its number
@@ -10,7 +9,7 @@ Held = List (ℕ × Packing)
 
 -- what one application has in a table
 abbrev pub own_of : ℕ → Held → Packing
-own_of owner held = option_map_or (λ own. own) (lookup (nat_eq owner) held) no_packs
+own_of owner held = unwrap_or (lookup (nat_eq owner) held) no_packs
 
 -- every application but one has what it had
 abbrev pub LeavesOthers : ℕ → Held → Held → Type 0

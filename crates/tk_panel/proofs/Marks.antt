@@ -1,7 +1,7 @@
 -- A window that isn't there, and so isn't changed.
 use Rattle.std.proofs.Common.{◌≡◌, ℕ, Bool, true, false, cond, List, [], ◌∷◌, refl, sym, ap}
 use Rattle.std.specs.Prelude.{◌==◌, Some, is_some}
-use Rattle.tk_base.specs.Bag.{changed_at, numbered}
+use Rattle.tk_base.specs.Numbered.{changed_at, numbered}
 use Rattle.tk_tree.specs.declared.window.Window.{Window}
 use Rattle.tk_tree.specs.Change.{dying}
 use Rattle.tk_tree.specs.Own.{Tree, window_at, with_change}

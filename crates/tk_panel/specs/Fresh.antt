@@ -1,4 +1,4 @@
--- Meaning. What an application has before it is added, and when it was.
+-- Meaning. Nothing, and from it what an application has before its script.
 use Rattle.std.specs.Prelude.{ℕ, List, []}
 use Rattle.tk_after.specs.Timers as timers
 use Rattle.tk_panel.specs.ClassBindings.{with_class_bindings}

@@ -10,7 +10,7 @@ use Rattle.tk_virtual.specs.declared.pair.Pair.{Pair}
 use Rattle.tk_panel.specs.declared.transcript.Line.{Line}
 
 pub record Panel : Type 0 where
-  -- the moment, in milliseconds, which is the same for all applications
+  -- the moment, in milliseconds
   pub moment : ℕ
   -- its windows, their widgets, what is packed, and its rectangle
   pub windowing : screens.Windowing

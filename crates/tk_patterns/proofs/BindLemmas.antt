@@ -9,7 +9,8 @@ use Rattle.std.proofs.lemmas.Option.{slice_get_within}
 use Rattle.std.proofs.lemmas.List.{at_drop_more}
 use Rattle.std.proofs.lemmas.List.Quantifiers.{position-Some}
 use Rattle.tk_patterns.specs.declared.binding.Binding.{Binding}
-use Rattle.tk_patterns.specs.Own.{has_tag, is_of, binding_of, refuses, sequences_of, bound_again, with_binding, with_script_at}
+use Rattle.tk_patterns.specs.Own.{has_tag, is_of, binding_of, refuses, sequences_of, bound_again, with_binding}
+use Rattle.tk_patterns.specs.OwnSteps.{with_script_at}
 use Rattle.tk_sequences.specs.declared.sequence.Sequence.{Sequence}
 use Rattle.tk_sequences.specs.declared.sequence.Sequence.TheVariants.{Virtual}
 

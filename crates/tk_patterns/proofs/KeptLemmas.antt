@@ -3,7 +3,7 @@ use Rattle.std.proofs.Common.{◌≡◌, ℕ, zero, suc, ◌<◌, Bool, true, fa
 use Rattle.std.specs.List.{remove}
 use Rattle.tk_patterns.specs.declared.binding.Binding.{Binding}
 use Rattle.tk_patterns.specs.Filing.{number_of}
-use Rattle.tk_patterns.specs.Own.{with_script_at}
+use Rattle.tk_patterns.specs.OwnSteps.{with_script_at}
 
 pub numbers_again : (own : List Binding) (place : ℕ) (script : List ℕ) → map number_of (with_script_at place script own) ≡ map number_of own
 numbers_again [] zero script = refl

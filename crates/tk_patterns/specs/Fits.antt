@@ -2,7 +2,7 @@
 use Rattle.std.specs.Prelude.{ℕ, Bool, true, false, ◌&&◌, ◌||◌, ◌==◌, nat_le, not, ℤ, ◌-ℤ◌, unsigned_abs, Option, Some, None, unwrap_or}
 use Rattle.std.specs.Int.{abs_diff}
 use Rattle.std.specs.Option.{option_map_or}
-use Rattle.tk_base.specs.Names.{shift_left}
+use Rattle.tk_base.specs.Names.{is_modifier}
 use Rattle.tk_sequences.specs.declared.detail.Detail.{Detail}
 use Rattle.tk_sequences.specs.declared.detail.Detail.TheVariants.{Key, Button}
 use Rattle.tk_sequences.specs.declared.event_type.EventType.{EventType}
@@ -48,9 +48,9 @@ abbrev pub is_key_press : EventKind → Bool
 is_key_press (Physical type) = is_press_of_key type
 is_key_press (Virtual name) = false
 
--- a key from Shift_L on, the first of those that modify others
+-- a shift, control or alt key, or the lock of capitals
 abbrev pub is_modifier_key : Option ℕ → Bool
-is_modifier_key key = option_map_or (λ k. nat_le shift_left k) key false
+is_modifier_key key = option_map_or is_modifier key false
 
 -- any release, or a press of a modifier key: between two events of a sequence such an event may stand
 abbrev pub may_stand_between : Event → Bool

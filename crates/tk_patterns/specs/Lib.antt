@@ -9,6 +9,7 @@ pub mod Inputs
 pub mod Matches
 pub mod Named
 pub mod Own
+pub mod OwnSteps
 pub mod Rests
 pub mod Same
 pub mod Shared

@@ -1,5 +1,5 @@
 -- Meaning. One application's bindings, in the order of registration, and what calls do to them (bind(n)).
-use Rattle.std.specs.Prelude.{ℕ, zero, suc, Bool, ◌&&◌, not, nat_le, List, [], ◌∷◌, ◌++◌, length, find, filter, map, Option, is_some, is_none, option_map, if◌then◌else◌}
+use Rattle.std.specs.Prelude.{ℕ, Bool, ◌&&◌, not, nat_le, List, [], ◌∷◌, ◌++◌, length, find, filter, map, Option, is_some, is_none, option_map, if◌then◌else◌}
 use Rattle.std.specs.Str.{bytes_eq}
 use Rattle.tk_patterns.specs.declared.binding.Binding.{Binding}
 use Rattle.tk_patterns.specs.Same.{same_sequence}
@@ -48,11 +48,3 @@ without_binding tag sequence own = filter (λ binding. not (is_of tag sequence b
 
 abbrev pub without_tag : List ℕ → List Binding → List Binding
 without_tag tag own = filter (λ binding. not (has_tag tag binding)) own
-
--- ── steps ──
-
--- the binding at a place with another script
-abbrev pub with_script_at : ℕ → List ℕ → List Binding → List Binding
-with_script_at place script [] = []
-with_script_at zero script (binding ∷ own) = record binding { script = script } ∷ own
-with_script_at (suc place) script (binding ∷ own) = binding ∷ with_script_at place script own

@@ -1,7 +1,8 @@
 ghost use Rattle.std.specs.Prelude.{◌≡◌, [], ◌∷◌, ◌++◌, ◌<◌, nat_le, Err, IfOk, OnOk, OnErr, IsOkUnless, MatchBool, length, map};
 ghost use Rattle.std.specs.List.{remove};
 ghost use Rattle.std.specs.Option.{option_copied};
-ghost use Rattle.tk_patterns.specs.Own.{has_tag, is_of, binding_of, most_bindings, script_of, sequences_of, refuses, with_script_at, with_binding, without_binding, without_tag};
+ghost use Rattle.tk_patterns.specs.Own.{has_tag, is_of, binding_of, most_bindings, script_of, sequences_of, refuses, with_binding, without_binding, without_tag};
+ghost use Rattle.tk_patterns.specs.OwnSteps.{with_script_at};
 ghost use Rattle.tk_patterns.specs.Filed.{numbers_of};
 ghost use Rattle.tk_patterns.specs.Filing.{number_of};
 ghost use Rattle.tk_patterns.specs.Winner.{winner};

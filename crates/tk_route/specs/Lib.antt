@@ -1,5 +1,6 @@
 -- What the contracts cite.
 pub mod Added
+pub mod Answers
 pub mod Buttons
 pub mod Changes
 pub mod Fault

@@ -9,18 +9,10 @@ use Rattle.tk_route.specs.Lines.{Line, values}
 use Rattle.tk_route.specs.Buttons.{has, is_any_held}
 use Rattle.tk_route.specs.Values.{Values, local, state_of, under}
 use Rattle.tk_route.specs.declared.delivery.Delivery.{Delivery}
-use Rattle.tk_route.specs.declared.delivery.Routed.{Routed}
-use Rattle.tk_route.specs.declared.delivery.Routed.TheVariants.{Nobody, One, Two}
 use Rattle.tk_route.specs.declared.delivery.Stamp.{Stamp}
 use Rattle.tk_route.specs.declared.line.HostLine.{HostLine}
 use Rattle.tk_route.specs.declared.line.HostLine.TheVariants.{Move, Press, Release, Keydown, Keyup, Focus, Rect as Placed}
 use Rattle.tk_route.specs.declared.place.Place.{Place}
-
--- an answer as a list
-abbrev pub deliveries : Routed → List Delivery
-deliveries Nobody = []
-deliveries (One only) = only ∷ []
-deliveries (Two first second) = first ∷ second ∷ []
 
 abbrev pub delivery : Stamp → ℕ → LocalKind → Delivery
 delivery stamp slot kind = record { slot = slot; event = record { moment = stamp.moment; state = stamp.state; kind = kind } }

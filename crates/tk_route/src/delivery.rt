@@ -2,7 +2,8 @@
 ghost use Rattle.std.specs.Prelude.{◌≡◌, ◌++◌};
 ghost use Rattle.std.specs.Option.{option_to_list};
 ghost use Rattle.tk_base.specs.declared.local_event.LocalKind.TheVariants.{Position, Press, Release};
-ghost use Rattle.tk_route.specs.Routes.{deliveries, to, to_place};
+ghost use Rattle.tk_route.specs.Routes.{to, to_place};
+ghost use Rattle.tk_route.specs.Answers.{deliveries};
 
 use crate::place::Place;
 use tk_base::{LocalEvent, LocalKind};

@@ -1,6 +1,7 @@
 ghost use Rattle.std.specs.Prelude.{◌≡◌, slice_get};
 ghost use Rattle.std.specs.Option.{option_to_list};
-ghost use Rattle.tk_route.specs.Routes.{deliveries, told_focus, told_size};
+ghost use Rattle.tk_route.specs.Routes.{told_focus, told_size};
+ghost use Rattle.tk_route.specs.Answers.{deliveries};
 
 use crate::buttons::Buttons;
 use crate::delivery::{Delivery, Routed, Stamp, both, position, press, release, to};
@@ -62,7 +63,8 @@ impl Router {
     ghost use Rattle.tk_route.specs.Lines.{Line, at, values};
     ghost use Rattle.tk_route.specs.Limits.{most_applications};
     ghost use Rattle.tk_route.specs.Refusals.{IsFirst, IsInRange, NamesNobody, NoneApplies, Refuses, RefusesRects, line_faults};
-    ghost use Rattle.tk_route.specs.Routes.{deliveries, routes, to, told, told_focus, told_move, told_press, told_rect, told_release};
+    ghost use Rattle.tk_route.specs.Routes.{routes, to, told, told_focus, told_move, told_press, told_rect, told_release};
+    ghost use Rattle.tk_route.specs.Answers.{deliveries};
     ghost use Rattle.tk_route.specs.Screen.{IsOnScreen, are_apart};
     ghost use Rattle.tk_route.specs.Values.{state_of};
     ghost use Rattle.tk_route.specs.Changes.{changed, with_buttons, with_key_down, with_key_up};

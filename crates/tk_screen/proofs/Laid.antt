@@ -2,7 +2,7 @@
 use Rattle.std.proofs.Common.{◌≡◌, ◌≢◌, ℕ, Bool, true, false, List, [], ◌∷◌, ◌++◌, Option, Some, None, refl, sym, ap, ◌∙◌, subst}
 use Rattle.std.specs.Prelude.{◌==◌, ◌&&◌, if◌then◌else◌, option_map}
 use Rattle.std.proofs.lemmas.Bool.{eqb-true}
-use Rattle.tk_base.specs.Bag.{numbered, changed_at}
+use Rattle.tk_base.specs.Numbered.{numbered, changed_at}
 use Rattle.tk_base.specs.declared.rect.Rect.{Rect}
 use Rattle.tk_packer.specs.Changes.{is_same_rect, changes_at, changes_of, laid, laid_out_shapes}
 use Rattle.tk_packer.specs.declared.changes.PlaceChange.{PlaceChange}

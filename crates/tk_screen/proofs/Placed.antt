@@ -1,7 +1,7 @@
 -- What is there is there after a change.
 use Rattle.std.proofs.Common.{◌≡◌, ℕ, Bool, true, false, List, [], ◌∷◌, length, arith, Option, Some, None, IsSome, IfSome, refl, sym, ap, ◌∙◌, subst}
 use Rattle.std.specs.Prelude.{◌==◌, if◌then◌else◌, is_some}
-use Rattle.tk_base.specs.Bag.{numbered, changed_at}
+use Rattle.tk_base.specs.Numbered.{numbered, changed_at}
 use Rattle.tk_base.specs.declared.rect.Rect.{Rect}
 use Rattle.tk_packer.specs.declared.changes.PlaceChange.{PlaceChange}
 use Rattle.tk_packer.specs.declared.changes.PlaceChange.TheVariants.{Unmap, Configure, Map}

@@ -6,7 +6,7 @@ use Rattle.std.specs.Option.{option_map_or}
 use Rattle.std.specs.Str.{bytes_eq}
 use Rattle.std.proofs.lemmas.Bool.{eqb-true}
 use Rattle.tcl_vars.specs.Store.{Store}
-use Rattle.tk_base.specs.Bag.{changed_at, numbered}
+use Rattle.tk_base.specs.Numbered.{changed_at, numbered}
 use Rattle.tk_base.specs.declared.rect.Rect.{Rect}
 use Rattle.tk_packer.specs.Changes.{changes_of, laid_out_shapes, unlaid}
 use Rattle.tk_packer.specs.Layout.{layout}

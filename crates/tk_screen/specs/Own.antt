@@ -10,8 +10,8 @@ use Rattle.tk_widgets.specs.Sizes.{new_widget}
 use Rattle.tk_screen.specs.Widgets.{OwnWidgets, with_widget, without_widget}
 use Rattle.tk_screen.specs.declared.toplevel.Toplevel.{Toplevel}
 
--- its windows and their next number, their widgets, what is packed in them, and its rectangle, name and title; none
--- of the last before it is added
+-- its windows and their next number, their widgets, what is packed in them, and its rectangle, name and title; none of the last in `nothing`, from which
+-- `added` makes what an application has at first
 pub record Windowing : Type 0 where
   pub tree : Tree
   pub widgets : OwnWidgets

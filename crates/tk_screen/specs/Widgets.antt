@@ -1,10 +1,8 @@
 -- Meaning. The widgets of one application's windows, by their numbers, in the order in which they were made.
-use Rattle.std.specs.Prelude.{◌≡◌, ◌≢◌, ◌<◌, ℕ, nat_eq, List, [], Option, None, Some}
-use Rattle.std.specs.HashMap.{get, spare}
+use Rattle.std.specs.Prelude.{ℕ, nat_eq, List, Option, None, Some}
 use Rattle.std.specs.Map.{lookup, remove_entry, set_value}
-use Rattle.std.specs.Option.{option_map_or, IsSomeAnd}
+use Rattle.std.specs.Option.{option_map_or}
 use Rattle.indexmap.specs.IndexMap.{insert_entry}
-use Rattle.tk_screen.specs.declared.widgets.Widgets.{Widgets}
 use Rattle.tk_widgets.specs.declared.outcome.WidgetChange.{WidgetChange}
 use Rattle.tk_widgets.specs.declared.outcome.WidgetAct.{WidgetAct}
 use Rattle.tk_widgets.specs.declared.widget.Widget.{Widget}
@@ -12,8 +10,6 @@ use Rattle.tk_widgets.specs.Commands.{Told, made}
 
 abbrev pub OwnWidgets : Type 0
 OwnWidgets = List (ℕ × Widget)
-
--- ---- one application
 
 -- the widget of the window with a number
 abbrev pub widget_at : ℕ → OwnWidgets → Option Widget
@@ -39,19 +35,3 @@ told_of number widgets told = record { widgets = set_value (nat_eq number) widge
 abbrev pub made_at : ℕ → WidgetChange → OwnWidgets → ToldOf
 made_at number change widgets =
     option_map_or (λ widget. told_of number widgets (made change widget)) (widget_at number widgets) (record { widgets = widgets; act = None })
-
--- ---- all applications
-
--- the widgets of an application in a table
-abbrev pub widgets_of : ℕ → Widgets → OwnWidgets
-widgets_of owner table = option_map_or (λ row. row.entries) (get nat_eq table.rows owner) []
-
--- every application but one has the widgets that it had
-abbrev pub LeavesOtherWidgets : ℕ → Widgets → Widgets → Type 0
-LeavesOtherWidgets owner old new = (other : ℕ) → other ≢ owner → widgets_of other new ≡ widgets_of other old
-
--- ── steps ──
-
--- one more widget of an application can be put without memory
-abbrev pub HasRoom : ℕ → Widgets → Type 0
-HasRoom owner table = IsSomeAnd (get nat_eq table.rows owner) (λ row. 0 < spare row)

@@ -5,7 +5,7 @@ ghost use Rattle.std.specs.Option.{option_copied};
 ghost use Rattle.std.specs.Result.{result_ok};
 ghost use Rattle.tcl_vars.specs.Store.{variable_in};
 ghost use Rattle.tk_screen.specs.Reads.{hold, holds, is_size, read_named, read_of, same_text, size_now};
-ghost use Rattle.tk_screen.specs.Widgets.{widgets_of};
+ghost use Rattle.tk_screen.specs.Shared.{widgets_of};
 
 use crate::kept::KeptWidget;
 use crate::widgets::Widgets;

@@ -2,7 +2,8 @@
 ghost use Rattle.std.specs.Prelude.{◌≡◌, [], ℕ, IfOk, OnOk, OnErr, IsSome, nat_eq};
 ghost use Rattle.std.specs.HashMap.{get};
 ghost use Rattle.std.specs.Option.{option_copied};
-ghost use Rattle.tk_screen.specs.Widgets.{widgets_of, widget_at, with_widget, without_widget, made_at, HasRoom, LeavesOtherWidgets};
+ghost use Rattle.tk_screen.specs.Widgets.{widget_at, with_widget, without_widget, made_at};
+ghost use Rattle.tk_screen.specs.Shared.{widgets_of, HasRoom, LeavesOtherWidgets};
 
 use crate::kept::KeptWidget;
 use indexmap::IndexMap;

@@ -1,7 +1,7 @@
 -- What the grammar says of some texts.
 use Rattle.std.proofs.Common.{◌≡◌, ℕ, List, [], ◌∷◌, Some, None, Ok, Err, refl}
 use Rattle.std.specs.Prelude.{codes}
-use Rattle.tk_base.specs.Names.{key_names}
+use Rattle.tk_base.specs.Names.{all_names}
 use Rattle.tk_sequences.proofs.Grammars.{sequences_read, faults_told}
 use Rattle.tk_sequences.specs.Grammar.{IsSequence, HasFault}
 use Rattle.tk_sequences.specs.Reading.{fields, key_meant, detail_of, headed, pattern_of, plain_pattern, physical, parsed}
@@ -26,47 +26,47 @@ letter : Pattern
 letter = record { modifiers = 0; times = Single; kind = Key; detail = Some (details.Key 65) }
 
 white_space_around : IsSequence (codes " a ") (Physical (letter ∷ []))
-unfolding letter fields key_names key_meant detail_of headed pattern_of plain_pattern physical name_in parsed
+unfolding letter fields all_names key_meant detail_of headed pattern_of plain_pattern physical name_in parsed
 white_space_around = says (codes " a ") (Physical (letter ∷ [])) refl
 
 separators_around : IsSequence (codes "<- a ->") (Physical (letter ∷ []))
-unfolding letter fields key_names key_meant detail_of headed pattern_of plain_pattern physical name_in parsed
+unfolding letter fields all_names key_meant detail_of headed pattern_of plain_pattern physical name_in parsed
 separators_around = says (codes "<- a ->") (Physical (letter ∷ [])) refl
 
 with_modifiers : IsSequence (codes "<Control--Double-Alt-1>a") (Physical (record { modifiers = 12; times = Double; kind = Button; detail = Some (details.Button 1) } ∷ letter ∷ []))
-unfolding letter fields key_names key_meant detail_of headed pattern_of plain_pattern physical name_in parsed
+unfolding letter fields all_names key_meant detail_of headed pattern_of plain_pattern physical name_in parsed
 with_modifiers = says (codes "<Control--Double-Alt-1>a") (Physical (record { modifiers = 12; times = Double; kind = Button; detail = Some (details.Button 1) } ∷ letter ∷ [])) refl
 
 a_type : IsSequence (codes "<Map>") (Physical (record { modifiers = 0; times = Single; kind = Map; detail = None } ∷ []))
-unfolding fields key_names key_meant detail_of headed pattern_of plain_pattern physical name_in parsed
+unfolding fields all_names key_meant detail_of headed pattern_of plain_pattern physical name_in parsed
 a_type = says (codes "<Map>") (Physical (record { modifiers = 0; times = Single; kind = Map; detail = None } ∷ [])) refl
 
 name_with_bracket : IsSequence (codes "<<<a>>") (Virtual (codes "<a"))
-unfolding fields key_names key_meant detail_of headed pattern_of plain_pattern physical name_in parsed
+unfolding fields all_names key_meant detail_of headed pattern_of plain_pattern physical name_in parsed
 name_with_bracket = says (codes "<<<a>>") (Virtual (codes "<a")) refl
 
 no_name : HasFault (codes "<<>>") (BadSequence (codes "<<>>"))
-unfolding fields key_names key_meant detail_of headed pattern_of plain_pattern physical name_in parsed
+unfolding fields all_names key_meant detail_of headed pattern_of plain_pattern physical name_in parsed
 no_name = refuses (codes "<<>>") (BadSequence (codes "<<>>")) refl
 
 -- `<<` counts before an unknown word
 opening_first : HasFault (codes "<Foo><<a") (BadSequence (codes "<Foo><<a"))
-unfolding fields key_names key_meant detail_of headed pattern_of plain_pattern physical name_in parsed
+unfolding fields all_names key_meant detail_of headed pattern_of plain_pattern physical name_in parsed
 opening_first = refuses (codes "<Foo><<a") (BadSequence (codes "<Foo><<a")) refl
 
 -- but a bracket that never closes doesn't
 unknown_first : HasFault (codes "<Key-Foo><a") (BadKeysym (codes "Foo"))
-unfolding fields key_names key_meant detail_of headed pattern_of plain_pattern physical name_in parsed
+unfolding fields all_names key_meant detail_of headed pattern_of plain_pattern physical name_in parsed
 unknown_first = refuses (codes "<Key-Foo><a") (BadKeysym (codes "Foo")) refl
 
 never_closed : HasFault (codes "a<Foo") (BadSequence (codes "a<Foo"))
-unfolding fields key_names key_meant detail_of headed pattern_of plain_pattern physical name_in parsed
+unfolding fields all_names key_meant detail_of headed pattern_of plain_pattern physical name_in parsed
 never_closed = refuses (codes "a<Foo") (BadSequence (codes "a<Foo")) refl
 
 twice_double : HasFault (codes "<Double-Double-1>") (BadSequence (codes "<Double-Double-1>"))
-unfolding fields key_names key_meant detail_of headed pattern_of plain_pattern physical name_in parsed
+unfolding fields all_names key_meant detail_of headed pattern_of plain_pattern physical name_in parsed
 twice_double = refuses (codes "<Double-Double-1>") (BadSequence (codes "<Double-Double-1>")) refl
 
 nothing : HasFault [] (BadSequence [])
-unfolding fields key_names key_meant detail_of headed pattern_of plain_pattern physical name_in parsed
+unfolding fields all_names key_meant detail_of headed pattern_of plain_pattern physical name_in parsed
 nothing = refuses [] (BadSequence []) refl

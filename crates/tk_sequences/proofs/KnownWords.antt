@@ -7,7 +7,7 @@ use Rattle.std.proofs.lemmas.Bool.{ne_eqb, eqb-false}
 use Rattle.std.proofs.lemmas.List.Quantifiers.{position-Some}
 use Rattle.std.proofs.lemmas.List.Sums.{AllPass-from_list_all}
 use Rattle.std.proofs.lemmas.Slice.Eq.{bytes_eq-Decides}
-use Rattle.tk_base.specs.Names.{key_names, key_named, key_of_character}
+use Rattle.tk_base.specs.Names.{all_names, key_named, key_of_character}
 use Rattle.tk_sequences.proofs.ReadLemmas.{if_by, always}
 use Rattle.tk_sequences.proofs.WordLemmas.{is_inside, both_first, both_second}
 use Rattle.tk_sequences.specs.Grammar.{IsKey, IsCounted}
@@ -127,23 +127,23 @@ one_word (byte ∷ []) key h =
     })
 one_word (byte ∷ other ∷ bytes) key h = absurd (cc)
 
-names_inside : list_all is_inside_word key_names ≡ true
-unfolding key_names
+names_inside : list_all is_inside_word all_names ≡ true
+unfolding all_names
 names_inside = refl
 
-names_no_prefix : list_all is_no_prefix key_names ≡ true
-unfolding key_names
+names_no_prefix : list_all is_no_prefix all_names ≡ true
+unfolding all_names
 names_no_prefix = refl
 
-names_no_type : list_all is_no_type key_names ≡ true
-unfolding key_names
+names_no_type : list_all is_no_type all_names ≡ true
+unfolding all_names
 names_no_type = refl
 
-named_by : (test : List ℕ → Bool) (word : List ℕ) (place : ℕ) → list_all test key_names ≡ true → key_named word ≡ Some place → test word ≡ true
+named_by : (test : List ℕ → Bool) (word : List ℕ) (place : ℕ) → list_all test all_names ≡ true → key_named word ≡ Some place → test word ≡ true
 named_by test word place all h =
-    let found = position-Some (λ known. bytes_eq known word) key_names place [] h in
-    let same : get_or key_names place [] ≡ word = (bytes_eq-Decides (get_or key_names place []) word).0 found.1 in
-    subst (λ w. test w ≡ true) same (AllPass-from_list_all test key_names all place [] found.0)
+    let found = position-Some (λ known. bytes_eq known word) all_names place [] h in
+    let same : get_or all_names place [] ≡ word = (bytes_eq-Decides (get_or all_names place []) word).0 found.1 in
+    subst (λ w. test w ≡ true) same (AllPass-from_list_all test all_names all place [] found.0)
 
 key_word_by : (word : List ℕ) (key : ℕ) (found : Option ℕ) → key_named word ≡ found → option_or found (key_of_one word) ≡ Some key → IsKeyWord word
 key_word_by word key None is h = one_word word key h
@@ -165,8 +165,8 @@ ones_at place ([] ∷ names) = ones_at (suc place) names
 ones_at place ((byte ∷ []) ∷ names) = (byte == place + 32) && ones_at (suc place) names
 ones_at place ((byte ∷ other ∷ bytes) ∷ names) = ones_at (suc place) names
 
-names_ones : ones_at 0 key_names ≡ true
-unfolding key_names
+names_ones : ones_at 0 all_names ≡ true
+unfolding all_names
 names_ones = refl
 
 ones_first : (place byte : ℕ) (name : List ℕ) (names : List (List ℕ)) → ones_at place (name ∷ names) ≡ true → name ≡ byte ∷ [] → (byte == place + 32) ≡ true
@@ -188,9 +188,9 @@ one_at place byte (name ∷ names) (suc at) all less same = let e = one_at (suc 
 -- a name of one character is the key of that character
 named_character : (byte place key : ℕ) → key_named (byte ∷ []) ≡ Some place → key_of_character byte ≡ Some key → place ≡ key
 named_character byte place key named keyed =
-    let found = position-Some (λ known. bytes_eq known (byte ∷ [])) key_names place [] named in
-    let same : get_or key_names place [] ≡ byte ∷ [] = (bytes_eq-Decides (get_or key_names place []) (byte ∷ [])).0 found.1 in
-    let at : byte ≡ 0 + place + 32 = one_at 0 byte key_names place names_ones found.0 same in
+    let found = position-Some (λ known. bytes_eq known (byte ∷ [])) all_names place [] named in
+    let same : get_or all_names place [] ≡ byte ∷ [] = (bytes_eq-Decides (get_or all_names place []) (byte ∷ [])).0 found.1 in
+    let at : byte ≡ 0 + place + 32 = one_at 0 byte all_names place names_ones found.0 same in
     if_by (nat_le 32 byte && nat_le byte 126) (Some (byte - 32)) None (Some key) keyed
     (λ t h. let is : byte - 32 ≡ key = cc in omega (arith, at, is)) (λ t h. absurd (cc))
 

@@ -10,8 +10,8 @@ use Rattle.std.proofs.lemmas.List.Sums.{sum_by-cons}
 use Rattle.tcl_text.specs.Backslash.{is_white}
 use Rattle.tk_sequences.proofs.HeldLemmas.{IsHeld, held_more}
 use Rattle.tk_sequences.proofs.WordLemmas.{is_word}
-use Rattle.tk_base.proofs.NamesLemmas.{length_key_names}
-use Rattle.tk_base.specs.Names.{key_names, key_named, key_of_character}
+use Rattle.tk_base.proofs.NamesLemmas.{length_all_names}
+use Rattle.tk_base.specs.Names.{all_names, key_named, key_of_character}
 use Rattle.tk_sequences.specs.Modifiers.{modifier_bit}
 use Rattle.tk_sequences.specs.Patterns.{count_of, times_of}
 use Rattle.tk_sequences.specs.Reading.{OrFault, ◌>>=◌, fields, prefix_named, key_of_one, key_meant, key_or_fault, button_or_fault, detail_of, detail_behind, may_repeat, typed, button_or_key, type_of_detail, alone, untyped, typed_or_not, headed, with_prefix, pattern_behind, pattern_of, plain_key, plain_pattern, ReadingPlace, Between, Within, onto, counted, patterns_from}
@@ -62,8 +62,8 @@ key_below_by : (word : List ℕ) (key : ℕ) (found : Option ℕ) → key_named 
 key_below_by word key None is h = one_below word key h
 key_below_by word key (Some place) is h =
     let same : place ≡ key = cc in
-    let within = (position-Some (λ known. bytes_eq known word) key_names place [] is).0 in
-    omega (arith, length_key_names, within, same)
+    let within = (position-Some (λ known. bytes_eq known word) all_names place [] is).0 in
+    omega (arith, length_all_names, within, same)
 
 key_below : (word : List ℕ) (key : ℕ) → key_meant word ≡ Some key → key < 128
 unfolding key_meant

@@ -4,8 +4,8 @@ use Rattle.std.specs.List.{list_all}
 use Rattle.std.proofs.lemmas.List.Splits.{slice_split_none}
 use Rattle.std.proofs.lemmas.List.Sums.{AllPass-from_list_all}
 use Rattle.std.proofs.lemmas.Option.{unwrap_or-slice_get}
-use Rattle.tk_base.proofs.NamesLemmas.{length_key_names}
-use Rattle.tk_base.specs.Names.{key_names, name_of}
+use Rattle.tk_base.proofs.NamesLemmas.{length_all_names}
+use Rattle.tk_base.specs.Names.{all_names, name_of}
 use Rattle.tk_sequences.specs.Reading.{fields}
 use Rattle.tk_sequences.specs.Words.{is_separator, is_some_text}
 
@@ -49,10 +49,10 @@ word_field word h =
     ap (filter is_some_text) (slice_split_none is_separator word (λ k d less. isnt _ (both_first _ _ (within k d less))))
     ∙ ap (λ (t : Bool). cond t (word ∷ []) []) (both_first (is_some_text word) (list_all is_in_word word) h)
 
-names_are_words : list_all is_word key_names ≡ true
-unfolding key_names
+names_are_words : list_all is_word all_names ≡ true
+unfolding all_names
 names_are_words = refl
 
 pub name_is_word : (key : ℕ) → key < 128 → is_word (name_of key) ≡ true
 name_is_word key below =
-    ap is_word (unwrap_or-slice_get key_names key []) ∙ AllPass-from_list_all is_word key_names names_are_words key [] (omega (arith, length_key_names))
+    ap is_word (unwrap_or-slice_get all_names key []) ∙ AllPass-from_list_all is_word all_names names_are_words key [] (omega (arith, length_all_names))

@@ -4,7 +4,8 @@ use Rattle.std.specs.Prelude.{◌==◌, ◌||◌, nat_le}
 use Rattle.std.specs.Str.{bytes_eq}
 use Rattle.std.proofs.lemmas.Option.{none-some}
 use Rattle.std.proofs.lemmas.Bool.{cases_eq, leb-false}
-use Rattle.tk_base.specs.Bag.{AllBelow, listed}
+use Rattle.tk_base.specs.Bag.{listed}
+use Rattle.tk_base.specs.Numbered.{AllBelow}
 use Rattle.tk_base.proofs.Owners.{listed_new, listed_other}
 use Rattle.tk_base.specs.declared.kind.Kind.{Kind}
 use Rattle.tk_base.specs.declared.counter.Counter.{Counter}

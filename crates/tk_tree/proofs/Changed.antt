@@ -3,14 +3,15 @@ use Rattle.std.proofs.Common.{◌≡◌, ◌≢◌, ◌⊎◌, inl, inr, ℕ, �
 use Rattle.std.specs.Prelude.{slice_set}
 use Rattle.std.proofs.lemmas.Option.{none-some}
 use Rattle.std.proofs.lemmas.Bool.{cases_eq}
-use Rattle.tk_base.specs.Bag.{listed, changed_at, without, IsRising}
+use Rattle.tk_base.specs.Bag.{listed}
+use Rattle.tk_base.specs.Numbered.{changed_at, without, IsRising}
 use Rattle.tk_base.proofs.Owners.{own_stands, listed_changed, listed_gone, listed_other}
 use Rattle.tk_base.specs.declared.counter.Counter.{Counter}
 use Rattle.tk_tree.specs.declared.index.PathIndex.{PathIndex}
 use Rattle.tk_tree.specs.declared.window.Window.{Window}
 use Rattle.tk_tree.specs.declared.windows.Node.{Node}
 use Rattle.tk_tree.specs.Arena.{at, item_of, held_by, IsKept, HoldsPath}
-use Rattle.tk_tree.specs.Change.{changed as change_of}
+use Rattle.tk_tree.specs.Changing.{changed as change_of}
 use Rattle.tk_tree.specs.declared.change.WindowChange.{WindowChange}
 use Rattle.tk_tree.specs.declared.change.WindowChange.TheVariants.{Dying, Tags, Place}
 use Rattle.tk_tree.specs.Index.{key_at, number_at, children_at, left_children, Removes}

@@ -2,7 +2,7 @@
 use Rattle.std.proofs.Common.{◌≡◌, ◌≢◌, ℕ, ◌<◌, Bool, true, false, List, [], ◌∷◌, ◌++◌, MatchOption, Option, Some, None, refl, sym, ap, ◌∙◌, subst, arith, append-nil}
 use Rattle.std.specs.Prelude.{◌==◌, not, filter}
 use Rattle.std.proofs.lemmas.Bool.{ne_eqb, eq-eqb}
-use Rattle.tk_base.specs.Bag.{AllBelow, AllAbove, IsRising}
+use Rattle.tk_base.specs.Numbered.{AllBelow, AllAbove, IsRising}
 use Rattle.tk_tree.specs.declared.window.Window.{Window}
 use Rattle.tk_tree.specs.Index.{added_child, left_children}
 use Rattle.tk_tree.specs.Own.{HasOlderParent, HaveOlderParents, is_child_of, child_numbers}

@@ -2,7 +2,7 @@
 use Rattle.std.proofs.Common.{◌≡◌, ℕ, suc, ◌+◌, ◌<◌, Bool, true, false, List, [], ◌∷◌, ◌++◌, length, Some, None, refl, sym, ap, ◌∙◌, subst, arith}
 use Rattle.std.specs.Prelude.{◌==◌, find}
 use Rattle.std.proofs.lemmas.Bool.{eqb-true, eq-eqb, ne_eqb}
-use Rattle.tk_base.specs.Bag.{numbered, changed_at, AllBelow, AllAbove, IsRising}
+use Rattle.tk_base.specs.Numbered.{numbered, changed_at, AllBelow, AllAbove, IsRising}
 use Rattle.tk_tree.specs.declared.window.Window.{Window}
 use Rattle.tk_tree.specs.Own.{HasOlderParent, HaveOlderParents}
 

@@ -4,7 +4,7 @@ use Rattle.std.specs.Prelude.{◌==◌, find, is_some}
 use Rattle.std.specs.Str.{bytes_eq}
 use Rattle.std.proofs.lemmas.Option.{none-some}
 use Rattle.std.proofs.lemmas.Bool.{eqb-true}
-use Rattle.tk_base.specs.Bag.{numbered}
+use Rattle.tk_base.specs.Numbered.{numbered}
 use Rattle.tk_base.specs.declared.counter.Counter.{Counter}
 use Rattle.tk_tree.specs.declared.index.PathIndex.{PathIndex}
 use Rattle.tk_tree.specs.declared.window.Window.{Window}

@@ -3,7 +3,7 @@ use Rattle.std.proofs.Common.{◌≡◌, ℕ, ◌<◌, ◌≤◌, ◌+◌, Bool,
 use Rattle.std.specs.Prelude.{reverse}
 use Rattle.std.proofs.lemmas.Bool.{ne_eqb}
 use Rattle.std.proofs.lemmas.List.{reverse-append, reverse-reverse}
-use Rattle.tk_base.specs.Bag.{AllAbove, IsRising}
+use Rattle.tk_base.specs.Numbered.{AllAbove, IsRising}
 use Rattle.tk_tree.specs.declared.window.Window.{Window}
 use Rattle.tk_tree.specs.Orders.{below, below_first}
 use Rattle.tk_tree.specs.Walks.{all_below, all_below_first}

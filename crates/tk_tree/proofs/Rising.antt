@@ -5,7 +5,7 @@ use Rattle.std.specs.List.{remove}
 use Rattle.std.specs.List.Sorted.{IsBinarySearchResult}
 use Rattle.std.proofs.lemmas.List.Sorted.{searched}
 use Rattle.std.proofs.lemmas.Bool.{eq-eqb, ne_eqb, cases_order}
-use Rattle.tk_base.specs.Bag.{AllBelow, AllAbove, IsRising}
+use Rattle.tk_base.specs.Numbered.{AllBelow, AllAbove, IsRising}
 use Rattle.tk_base.specs.declared.counter.Counter.{Counter}
 use Rattle.tk_tree.specs.declared.index.PathIndex.{PathIndex}
 use Rattle.tk_tree.specs.declared.window.Window.{Window}

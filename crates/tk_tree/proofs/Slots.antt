@@ -3,7 +3,8 @@ use Rattle.std.proofs.Common.{◌≡◌, ◌≢◌, ◌⊎◌, inl, inr, ℕ, ze
 use Rattle.std.specs.Prelude.{slice_set, ◌==◌, find}
 use Rattle.std.proofs.lemmas.Option.{none-some}
 use Rattle.std.proofs.lemmas.Bool.{eqb-true, eqb-false}
-use Rattle.tk_base.specs.Bag.{Item, listed, numbered, NonePasses, IsRising}
+use Rattle.tk_base.specs.Bag.{Item, listed, NonePasses}
+use Rattle.tk_base.specs.Numbered.{numbered, IsRising}
 use Rattle.tk_base.proofs.Owners.{own_stands, listed_found, listed_none}
 use Rattle.tk_tree.specs.declared.window.Window.{Window}
 use Rattle.tk_tree.specs.declared.windows.Node.{Node}

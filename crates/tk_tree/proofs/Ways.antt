@@ -3,7 +3,7 @@ use Rattle.std.proofs.Common.{◌≡◌, ℕ, ◌<◌, Bool, true, false, List, 
 use Rattle.std.specs.Prelude.{◌==◌, find, reverse}
 use Rattle.std.proofs.lemmas.Bool.{eqb-true, ne_eqb}
 use Rattle.std.proofs.lemmas.List.{reverse-append}
-use Rattle.tk_base.specs.Bag.{numbered, AllBelow, AllAbove, IsRising}
+use Rattle.tk_base.specs.Numbered.{numbered, AllBelow, AllAbove, IsRising}
 use Rattle.tk_tree.specs.declared.window.Window.{Window}
 use Rattle.tk_tree.specs.Own.{HasOlderParent, HaveOlderParents, IsSound, Tree, window_at}
 use Rattle.tk_tree.specs.Ways.{way_up}

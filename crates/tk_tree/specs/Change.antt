@@ -1,15 +1,8 @@
 -- Meaning. What a window becomes.
 use Rattle.std.specs.Prelude.{Bool, true, List, [], ◌∷◌, ℕ}
 use Rattle.tk_base.specs.declared.rect.Rect.{Rect}
-use Rattle.tk_tree.specs.declared.change.WindowChange.{WindowChange}
-use Rattle.tk_tree.specs.declared.change.WindowChange.TheVariants.{Dying, Tags, Place}
 use Rattle.tk_tree.specs.declared.window.Window.{Window}
 use Rattle.tk_tree.specs.Window.{default_tags}
-
-abbrev pub changed : WindowChange → Window → Window
-changed Dying window = record window { dying = true }
-changed (Tags tags) window = record window { tags = tags }
-changed (Place place mapped) window = record window { rectangle = place; mapped = mapped }
 
 -- a window that is being destroyed
 abbrev pub dying : Window → Window

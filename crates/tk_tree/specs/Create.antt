@@ -1,5 +1,6 @@
 -- Meaning. What `create` answers and does.
 use Rattle.std.specs.Prelude.{ℕ, ◌+◌, List, [], ◌∷◌, ◌++◌, Option, None, Some, is_some, option_map, option_and_then, if◌then◌else◌, codes}
+use Rattle.std.specs.Option.{option_or}
 use Rattle.std.specs.Str.{bytes_eq}
 use Rattle.tk_base.specs.declared.kind.Kind.{Kind}
 use Rattle.tk_tree.specs.declared.fault.WindowFault.{WindowFault}
@@ -27,14 +28,10 @@ place_refusal path own = if bytes_eq path (codes ".") then None else below_refus
 abbrev pub taken_refusal : List ℕ → Tree → Option WindowFault
 taken_refusal path own = if is_some (at_path path own) then Some Exists else if is_full own then Some Full else None
 
-abbrev pub first_of_two : Option WindowFault → Option WindowFault → Option WindowFault
-first_of_two (Some fault) later = Some fault
-first_of_two None later = later
-
 -- what refuses a window: no path or no parent there (24), a name that begins with A to Z (26), a dying parent (27), a path that is taken (25),
 -- no more windows (28), the first of these that holds
 abbrev pub refusal : List ℕ → Tree → Option WindowFault
-refusal path own = first_of_two (place_refusal path own) (taken_refusal path own)
+refusal path own = option_or (place_refusal path own) (taken_refusal path own)
 
 -- the number of the parent that a path names; none for `.`
 abbrev pub parent_number : List ℕ → Tree → Option ℕ

@@ -2,7 +2,7 @@
 use Rattle.std.specs.Prelude.{◌≡◌, ◌≢◌, ℕ, List, [], ◌∷◌, ◌++◌, ◌==◌, not, filter, Option, None, Some, nat_eq, option_and_then, if◌then◌else◌}
 use Rattle.std.specs.Option.{option_map_or}
 use Rattle.std.specs.HashMap.{get, get_by_text}
-use Rattle.tk_base.specs.Bag.{IsRising}
+use Rattle.tk_base.specs.Numbered.{IsRising}
 use Rattle.tk_tree.specs.declared.index.PathRow.{PathRow}
 use Rattle.tk_tree.specs.declared.index.PathIndex.{PathIndex}
 

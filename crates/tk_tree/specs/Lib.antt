@@ -1,6 +1,7 @@
 -- What the contracts cite.
 pub mod Arena
 pub mod Change
+pub mod Changing
 pub mod Corners
 pub mod Create
 pub mod FaultNumbers

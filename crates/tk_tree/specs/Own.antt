@@ -2,7 +2,7 @@
 use Rattle.std.specs.Prelude.{◌<◌, ◌≤◌, ℕ, Bool, false, ◌==◌, ◌||◌, nat_le, List, [], ◌∷◌, length, find, filter, map, Option, MatchOption}
 use Rattle.std.specs.Option.{option_map_or}
 use Rattle.std.specs.Str.{bytes_eq}
-use Rattle.tk_base.specs.Bag.{numbered, without, changed_at, AllBelow, IsRising}
+use Rattle.tk_base.specs.Numbered.{numbered, without, changed_at, AllBelow, IsRising}
 use Rattle.tk_tree.specs.declared.window.Window.{Window}
 use Rattle.tk_tree.specs.Window.{number_of}
 

@@ -1,5 +1,5 @@
 ghost use Rattle.std.specs.Prelude.{◌≡◌};
-ghost use Rattle.tk_tree.specs.Change.{changed};
+ghost use Rattle.tk_tree.specs.Changing.{changed};
 
 use crate::window::Window;
 use tcl_text::TextList;

@@ -1,6 +1,7 @@
 ghost use Rattle.std.specs.Prelude.{◌≡◌, ◌≢◌, ◌<◌, ◌≤◌, ◌++◌, ◌-◌, ◌^◌, ◌==◌, ℕ, false, [], ◌∷◌, None, Some, Ok, Err, IsSome, IfOk, IfSome, OnOk, OnErr, IsOkUnless, MatchOption, is_some, length, option_map, reverse};
 ghost use Rattle.std.specs.Option.{option_copied, option_map_or};
-ghost use Rattle.tk_tree.specs.Change.{changed, dying, with_place, with_tags};
+ghost use Rattle.tk_tree.specs.Change.{dying, with_place, with_tags};
+ghost use Rattle.tk_tree.specs.Changing.{changed};
 ghost use Rattle.tk_tree.specs.Corners.{corner};
 ghost use Rattle.tk_tree.specs.Create.{refusal, place_refusal, parent_number, with_window};
 ghost use Rattle.tk_tree.specs.Orders.{below, below_first, subtree, post_order};

@@ -1,5 +1,5 @@
 -- Steps. The class of a sequence, by which bindings and pairs are found.
-use Rattle.std.specs.Prelude.{ℕ, ◌+◌, ◌*◌, ◌-◌, Bool, ◌==◌, nat_eq, List, [], length, Option, Some, None, slice_get}
+use Rattle.std.specs.Prelude.{ℕ, ◌+◌, ◌*◌, ◌-◌, Bool, ◌==◌, nat_eq, List, [], length, Option, Some, None, slice_get, unwrap_or}
 use Rattle.std.specs.Map.{lookup}
 use Rattle.std.specs.Option.{option_map_or}
 use Rattle.tk_base.specs.Names.{character_of}
@@ -35,4 +35,4 @@ is_of_class class pair = sequence_class pair.sequence == class
 
 -- the pairs that are listed under a class
 abbrev pub listed_in : ℕ → List (ℕ × List Pair) → List Pair
-listed_in class classes = option_map_or (λ pairs. pairs) (lookup (nat_eq class) classes) []
+listed_in class classes = unwrap_or (lookup (nat_eq class) classes) []

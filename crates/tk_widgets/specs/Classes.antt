@@ -1,5 +1,5 @@
 -- Meaning. What the widgets show, and what keys and the pointer ask of them.
-use Rattle.std.specs.Prelude.{ℕ, ◌-◌, ◌/◌, ℤ, Bool, false, if◌then◌else◌, List, Option, Some, None, codes}
+use Rattle.std.specs.Prelude.{ℕ, ◌-◌, ◌/◌, ℤ, Bool, false, if◌then◌else◌, List, [], Option, Some, None, unwrap_or, codes}
 use Rattle.std.specs.Option.{option_map_or}
 use Rattle.std.specs.Str.{bytes_eq}
 use Rattle.tcl_text.specs.Indices.{from_zero}
@@ -10,7 +10,7 @@ use Rattle.tk_options.specs.declared.option.OptionEntry.{OptionEntry}
 use Rattle.tk_options.specs.declared.option.OptionName.{OptionName}
 use Rattle.tk_options.specs.declared.option.OptionName.TheVariants.{Command, Relief, State}
 use Rattle.tk_options.specs.Options.{value_of}
-use Rattle.tk_widgets.specs.Sizes.{or_empty, text_shown}
+use Rattle.tk_widgets.specs.Sizes.{text_shown}
 use Rattle.tk_widgets.specs.declared.widget.Parts.{Parts}
 use Rattle.tk_widgets.specs.declared.widget.Parts.TheVariants.{Frame, Label, Button, Entry, Listbox}
 use Rattle.tk_widgets.specs.declared.widget.Widget.{Widget}
@@ -36,7 +36,7 @@ invoked options = if has_value State (codes "disabled") options then None else v
 
 -- a button's relief
 abbrev pub relief_of : List OptionEntry → List ℕ
-relief_of options = or_empty (value_of Relief options)
+relief_of options = unwrap_or (value_of Relief options) []
 
 -- how many columns stand to the left of so many pixels, inside the border
 abbrev pub columns_to : ℤ → ℕ → ℕ

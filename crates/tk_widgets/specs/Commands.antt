@@ -1,5 +1,5 @@
 -- Meaning. A widget's command, from the words behind its name. `text` is that of the variable that the widget shows, where it can be read.
-use Rattle.std.specs.Prelude.{ℕ, Bool, true, false, nat_le, if◌then◌else◌, List, [], ◌∷◌, length, map, Option, Some, None, Result, Ok, Err, codes}
+use Rattle.std.specs.Prelude.{ℕ, Bool, true, false, nat_le, if◌then◌else◌, List, [], ◌∷◌, length, map, Option, Some, None, unwrap_or, Result, Ok, Err, codes}
 use Rattle.std.specs.Option.{option_or}
 use Rattle.std.specs.Str.{bytes_eq}
 use Rattle.tcl_text.specs.Answers.{◌>>=◌, answers, bad_option, limit_text, wrong_args}
@@ -26,7 +26,6 @@ use Rattle.tk_widgets.specs.Classes.{invoked}
 use Rattle.tk_widgets.specs.EntryCommands.{edit_wanted, entry_words}
 use Rattle.tk_widgets.specs.ListboxCommands.{listbox_words}
 use Rattle.tk_widgets.specs.Outcomes.{Wanted, asked_by, change, nothing, or_fault, script, told}
-use Rattle.tk_widgets.specs.Sizes.{or_empty}
 use Rattle.tcl_text.specs.Limits.{most_bytes}
 
 -- ---- what the words ask for
@@ -164,7 +163,7 @@ write text absent_only None = None
 -- the own text of a widget once options are set
 abbrev pub own_text_of : List Setting → List OptionEntry → Parts → List ℕ
 own_text_of all options (Entry entry) = entry.text
-own_text_of all options _ = or_empty (option_or (last_setting Text all) (value_of Text options))
+own_text_of all options _ = unwrap_or (option_or (last_setting Text all) (value_of Text options)) []
 
 abbrev pub own_text_after : List Setting → Widget → List ℕ
 own_text_after all widget = own_text_of all widget.options widget.parts

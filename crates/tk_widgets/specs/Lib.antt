@@ -13,4 +13,5 @@ pub mod ListboxKeys
 pub mod Listboxes
 pub mod Outcomes
 pub mod Sizes
+pub mod Steps
 pub mod Walk

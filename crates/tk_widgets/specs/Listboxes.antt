@@ -1,6 +1,6 @@
 -- Meaning. A listbox of listbox(n): its items, and what its commands make of them. Places count from 0.
-use Rattle.std.specs.Prelude.{ℕ, suc, ◌+◌, ◌-◌, ◌/◌, min, max, ℤ, Bool, not, ◌&&◌, ◌||◌, ◌==◌, nat_le, nat_lt, if◌then◌else◌, List, [], ◌∷◌, ◌++◌, length, take, drop}
-use Rattle.std.specs.List.{list_any}
+use Rattle.std.specs.Prelude.{ℕ, ◌+◌, ◌-◌, ◌/◌, min, max, ℤ, Bool, not, ◌&&◌, ◌||◌, ◌==◌, nat_le, nat_lt, if◌then◌else◌, List, [], ◌∷◌, ◌++◌, length, map, take, drop}
+use Rattle.std.specs.List.{enumerate_from, list_any}
 use Rattle.tk_widgets.specs.Indices.{from_zero}
 use Rattle.tk_widgets.specs.Items.{new_items}
 use Rattle.tk_widgets.specs.declared.items.Item.{Item}
@@ -26,8 +26,8 @@ inserted at new box = record {
   active = active_inserted at (length new) (length box.items) box.active;
 }
 
--- `delete first last`: those from a place on and before another are gone. The active one stays active; if it is gone, the one that stands
--- there then is, or else the last
+-- `delete first last`: those from a place on and before another are gone. The active one stays active; if it is gone, the one at the
+-- first deleted place is then, or else the last
 abbrev pub active_deleted : ℕ → ℕ → ℕ → ℕ
 active_deleted from to active = if nat_le to active then active - (to - from) else min active from
 
@@ -54,13 +54,16 @@ choice (Clear from to) place was = not (is_between from to place) && was
 choice (Alone only) place was = place == only
 choice (Toggle only) place was = if place == only then not was else was
 
--- the items after it, where the first stands at a place
-abbrev pub selected_by : Choice → ℕ → List Item → List Item
-selected_by how place [] = []
-selected_by how place (item ∷ items) = (record item { selected = choice how place item.selected }) ∷ selected_by how (suc place) items
+-- an item after it, with its place
+abbrev pub chosen : Choice → ℕ × Item → Item
+chosen how numbered = record numbered.1 { selected = choice how numbered.0 numbered.1.selected }
+
+-- the items after it
+abbrev pub selected_by : Choice → List Item → List Item
+selected_by how items = map (chosen how) (enumerate_from 0 items)
 
 abbrev pub selected : Choice → ListboxState → ListboxState
-selected how box = record box { items = selected_by how 0 box.items }
+selected how box = record box { items = selected_by how box.items }
 
 -- whether some of them are selected
 abbrev pub has_selected : List Item → Bool

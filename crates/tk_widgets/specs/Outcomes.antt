@@ -1,7 +1,6 @@
 -- Meaning. What the words of a widget's command ask for, and what is told.
-use Rattle.std.specs.Prelude.{◌≡◌, ℕ, nat_le, if◌then◌else◌, List, [], length, Option, Some, None, Result, Ok, Err}
-use Rattle.tcl_text.specs.Answers.{Answer, Gives, bounded, limit_text}
-use Rattle.tcl_text.specs.declared.commands.answers.Refusal.{Refusal}
+use Rattle.std.specs.Prelude.{ℕ, nat_le, if◌then◌else◌, List, [], length, Option, Some, None, Result, Ok, Err}
+use Rattle.tcl_text.specs.Answers.{Answer, bounded, limit_text}
 use Rattle.tk_widgets.specs.declared.entry.Entry.{Entry}
 use Rattle.tk_options.specs.declared.fault.OptionFault.{OptionFault}
 use Rattle.tk_options.specs.FaultTexts.{fault_text}
@@ -51,7 +50,3 @@ or_fault (Err fault) = Err (bounded (fault_text fault))
 abbrev pub asked_by : Wanted → WidgetRequest
 asked_by (Ok asked) = asked
 asked_by (Err text) = Done (act.Fault text)
-
--- what is told of a step that gave or refused what the definition says
-abbrev pub IsAskedBy : Result WidgetRequest Refusal → WidgetRequest → Type 0
-IsAskedBy given asked = (wanted : Wanted) → Gives given wanted → asked ≡ asked_by wanted

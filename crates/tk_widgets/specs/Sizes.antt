@@ -1,5 +1,5 @@
 -- Meaning. The size that a widget requests, in pixels.
-use Rattle.std.specs.Prelude.{ℕ, ◌+◌, ◌*◌, max, nat_lt, if◌then◌else◌, List, [], length, Option, Some, None}
+use Rattle.std.specs.Prelude.{ℕ, ◌+◌, ◌*◌, max, nat_lt, if◌then◌else◌, List, [], length, Option, Some, None, unwrap_or}
 use Rattle.tk_base.specs.declared.kind.Kind.{Kind}
 use Rattle.tk_base.specs.declared.kind.Kind.TheVariants as kind
 use Rattle.tk_options.specs.Rows.{options_of}
@@ -23,13 +23,9 @@ abbrev pub new_widget : Kind → Widget
 new_widget kind = record { options = options_of kind; parts = new_parts kind }
 
 -- what a label or a button shows: the variable's text, where there is one that can be read, or else its own
-abbrev pub or_empty : Option (List ℕ) → List ℕ
-or_empty (Some text) = text
-or_empty None = []
-
 abbrev pub text_shown : Option (List ℕ) → List OptionEntry → List ℕ
 text_shown (Some text) options = text
-text_shown None options = or_empty (value_of Text options)
+text_shown None options = unwrap_or (value_of Text options) []
 
 -- a number that was asked for, or where it is 0 another
 abbrev pub or_else : ℕ → ℕ → ℕ

@@ -5,7 +5,8 @@ ghost use Rattle.tcl_text.specs.Answers.{Gives, Refuses, answers, bounded};
 ghost use Rattle.tk_options.specs.Options.{description};
 ghost use Rattle.tk_options.specs.FaultTexts.{fault_text};
 ghost use Rattle.tk_widgets.specs.Commands as spec;
-ghost use Rattle.tk_widgets.specs.Outcomes.{IsAskedBy, asked_by};
+ghost use Rattle.tk_widgets.specs.Outcomes.{asked_by};
+ghost use Rattle.tk_widgets.specs.Steps.{IsAskedBy};
 
 use crate::entry_commands::{EntryEdit, edit_wanted, entry_words};
 use crate::listbox_commands::listbox_words;

@@ -315,14 +315,14 @@ fn active_deleted(from: usize, to: usize, active: usize) -> usize
 
 /// Changes the selection of all items.
 fn choose_among(items: &mut Vec<Item>, how: Choice)
-    ensures { items.new.items ≡ selected_by how 0 items.old.items }
+    ensures { items.new.items ≡ selected_by how items.old.items }
 {
     choose(items, how);
 }
 
 /// Changes the selection of the items.
 fn choose(items: &mut [Item], how: Choice)
-    ensures { items.new ≡ selected_by how 0 items.old }
+    ensures { items.new ≡ selected_by how items.old }
 {
     for (place, item) in items.iter_mut().enumerate() {
         item.selected = how.after(place, item.selected);

@@ -1,8 +1,8 @@
 //! The sizes that widgets request, in pixels.
-ghost use Rattle.std.specs.Prelude.{◌≡◌, ◌≤◌, length};
+ghost use Rattle.std.specs.Prelude.{◌≡◌, ◌≤◌, [], length, unwrap_or};
 ghost use Rattle.std.specs.Option.{option_copied};
 ghost use Rattle.tk_options.specs.Options.{value_of};
-ghost use Rattle.tk_widgets.specs.Sizes.{text_shown, or_empty, or_else, frame_size, text_size, entry_size, listbox_size};
+ghost use Rattle.tk_widgets.specs.Sizes.{text_shown, or_else, frame_size, text_size, entry_size, listbox_size};
 ghost use Rattle.tcl_text.specs.Limits.{most_bytes};
 
 use crate::measure::measure;
@@ -28,7 +28,7 @@ pub fn text_shown<'a>(variable: Option<&'a Text>, options: &'a OptionTable) -> &
 
 /// The value of `-text`.
 fn own_text(options: &OptionTable) -> &str
-    ensures text { result.now ≡ or_empty (value_of OptionName.Text options.now) }
+    ensures text { result.now ≡ unwrap_or (value_of OptionName.Text options.now) [] }
     ensures short { length result.now ≤ most_bytes }
 {
     match options.value(OptionName::Text) {

@@ -7,7 +7,8 @@ use Rattle.tcl_text.specs.declared.commands.answers.Refusal.TheVariants.{Error, 
 use Rattle.tcl_vars.specs.Store.{Store}
 use Rattle.tk_screen.specs.Own.{Windowing}
 use Rattle.tk_tree.specs.declared.fault.WindowFault.{WindowFault}
-use Rattle.tk_window_commands.specs.Answers.{Done, Told, Does, DoesThere}
+use Rattle.tk_window_commands.specs.Answers.{Done, Told}
+use Rattle.tk_window_commands.specs.Steps.{Does, DoesThere}
 use Rattle.tk_window_commands.specs.Create.{refusal_text}
 
 nothing_is_two : (answer : Answer) → answer ≡ Ok [] → answer ≡ Err [] → (P : Type 0) → P

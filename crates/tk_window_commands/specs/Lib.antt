@@ -3,5 +3,6 @@ pub mod Answers
 pub mod Commands
 pub mod Create
 pub mod Path
+pub mod Steps
 pub mod Winfo
 pub mod Wm

@@ -6,7 +6,7 @@ ghost use Rattle.tk_options.specs.Rows.{options_of};
 ghost use Rattle.tk_screen.specs.Shared.{own_of, LeavesOthers};
 ghost use Rattle.tk_tree.specs.Shared.{own_of as tree_of};
 ghost use Rattle.tk_widgets.specs.Outcomes.{or_fault};
-ghost use Rattle.tk_window_commands.specs.Answers.{Does};
+ghost use Rattle.tk_window_commands.specs.Steps.{Does};
 ghost use Rattle.tk_window_commands.specs.Create as spec;
 
 use crate::refusals::path_refused;

@@ -2,7 +2,7 @@
 ghost use Rattle.std.specs.Prelude.{◌≡◌, IfOk, is_some};
 ghost use Rattle.tcl_text.specs.Answers.{Gives};
 ghost use Rattle.tk_screen.specs.Shared.{own_of, LeavesOthers};
-ghost use Rattle.tk_window_commands.specs.Answers.{DoesThere};
+ghost use Rattle.tk_window_commands.specs.Steps.{DoesThere};
 ghost use Rattle.tk_window_commands.specs.Wm as spec;
 
 use std::alloc::{AllocError, Global};

@@ -1,5 +1,5 @@
 use Rattle.std.proofs.Common.{refl, sym, ap, ◌∙◌, subst}
-use Rattle.tk_base.specs.Bag.{AllBelow, without}
+use Rattle.tk_base.specs.Numbered.{AllBelow, without}
 use Rattle.tk_after.specs.Keys.{mark_number, marks_of}
 use Rattle.tk_after.proofs.Told.{undo_mark}
 use Rattle.tk_after.proofs.timers.list_number.Goals as goal

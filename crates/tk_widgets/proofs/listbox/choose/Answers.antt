@@ -1,6 +1,6 @@
 use Rattle.std.proofs.Common.{◌≡◌, ◌+◌, ◌<◌, Bool, List, length, set, get_or, ap, ◌∙◌, arith}
 use Rattle.tk_widgets.specs.declared.items.Item.{Item}
-use Rattle.tk_widgets.proofs.Chosen.{changed, selected_by-more}
+use Rattle.tk_widgets.proofs.Chosen.{changed, chosen_from-more}
 use Rattle.tk_widgets.proofs.listbox.choose.Goals as goal
 
 pub loop-place-preserved : goal.loop-place-preserved
@@ -11,4 +11,4 @@ loop-place-preserved c =
     let at : 0 + p ≡ p = omega arith in
     ap (λ (b : Bool). set c.loop-place.items p (record { text = (get_or c.loop-place.items p d).text; selected = b })) c.after-item.ensures
     ∙ ap (λ (now : List Item). set now p (changed c.args.how p (get_or now p d))) c.loop-place.invariant
-    ∙ selected_by-more c.args.how 0 p c.args.items.now p d at lt
+    ∙ chosen_from-more c.args.how 0 p c.args.items.now p d at lt

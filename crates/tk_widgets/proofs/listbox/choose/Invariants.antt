@@ -4,4 +4,4 @@ use Rattle.tk_widgets.proofs.listbox.choose.Given as goal
 
 -- those before the place are selected or not, and the others are as they were
 abbrev pub invariant-loop-place : goal.invariant-loop-place
-invariant-loop-place l = l.items ≡ selected_by l.how 0 (take l.place l.fn.items) ++ drop l.place l.fn.items
+invariant-loop-place l = l.items ≡ selected_by l.how (take l.place l.fn.items) ++ drop l.place l.fn.items

@@ -1,5 +1,5 @@
 use Rattle.std.proofs.Common.{ap, ◌∙◌, option_map}
-use Rattle.tk_base.specs.Bag.{numbered}
+use Rattle.tk_base.specs.Numbered.{numbered}
 use Rattle.tk_after.specs.Keys.{Mark, mark_number, marks_of}
 use Rattle.tk_after.proofs.Marks.{look}
 use Rattle.tk_after.proofs.index.TimerIndex.due_of.Goals as goal

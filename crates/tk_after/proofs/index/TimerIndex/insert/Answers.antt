@@ -2,7 +2,7 @@ use Rattle.std.proofs.Common.{◌^◌, ◌<◌, [], ◌∷◌, ◌++◌, sym, ap
 use Rattle.std.specs.List.{AllByRecursion}
 use Rattle.std.specs.List.Sorted.{IsStrictlySortedBy}
 use Rattle.std.specs.Map.{keys_of}
-use Rattle.tk_base.specs.Bag.{AllBelow}
+use Rattle.tk_base.specs.Numbered.{AllBelow}
 use Rattle.tk_after.specs.Keys.{IsNumber, mark_number, marks_of, name, name_cmp}
 use Rattle.tk_after.proofs.Marks.{absent_row, given_marks, given_others, small_given}
 use Rattle.tk_after.proofs.index.TimerIndex.insert.Goals as goal

@@ -2,7 +2,7 @@ use Rattle.std.proofs.Common.{refl, sym, ap, ◌∙◌, subst}
 use Rattle.std.specs.BTreeMap.{is_at}
 use Rattle.std.specs.List.{AllByRecursion}
 use Rattle.std.specs.Map.{lookup}
-use Rattle.tk_base.specs.Bag.{without}
+use Rattle.tk_base.specs.Numbered.{without}
 use Rattle.tk_after.specs.Keys.{IsNumber, mark_number, marks_of, name, name_cmp}
 use Rattle.tk_after.proofs.Marks.{small_taken, taken_marks, taken_others}
 use Rattle.tk_after.proofs.index.TimerIndex.remove.Goals as goal

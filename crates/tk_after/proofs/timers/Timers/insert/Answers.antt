@@ -1,5 +1,5 @@
 use Rattle.std.proofs.Common.{◌≡◌, false, sym, subst}
-use Rattle.tk_base.specs.Bag.{AllBelow}
+use Rattle.tk_base.specs.Numbered.{AllBelow}
 use Rattle.tk_after.specs.Keys.{number_of, entries_in, held_by}
 use Rattle.tk_after.specs.Timers.{is_full}
 use Rattle.tk_after.specs.Shared.{Held, own_of}

@@ -1,7 +1,8 @@
 use Rattle.std.proofs.Common.{◌≡◌, map, Err, sym, ap, ◌∙◌, subst, MatchBool, OnOk, IsOkUnless}
 use Rattle.std.specs.Prelude.{position}
 use Rattle.tk_patterns.specs.declared.fault.BindFault.TheVariants.{Full, NoMemory}
-use Rattle.tk_patterns.specs.Own.{is_of, with_script_at}
+use Rattle.tk_patterns.specs.Own.{is_of}
+use Rattle.tk_patterns.specs.OwnSteps.{with_script_at}
 use Rattle.tk_patterns.specs.Filing.{number_of}
 use Rattle.tk_patterns.proofs.KeptLemmas.{numbers_again}
 use Rattle.tk_patterns.proofs.BindLemmas.{found_not_refused, again_there, none_refuses, added_there}

@@ -1,6 +1,6 @@
 use Rattle.std.proofs.Common.{IsSome, sym, ap, ◌∙◌, subst}
 use Rattle.std.specs.Option.{option_copied_mut}
-use Rattle.tk_tree.specs.Change.{changed}
+use Rattle.tk_tree.specs.Changing.{changed}
 use Rattle.tk_tree.specs.Own.{window_at, with_change}
 use Rattle.tk_tree.specs.Shared.{own_of}
 use Rattle.tk_tree.proofs.Changed.{made}

@@ -1,6 +1,7 @@
 use Rattle.std.proofs.Common.{ap, ◌∙◌, subst}
-use Rattle.tk_base.specs.Bag.{IsRising}
-use Rattle.tk_tree.specs.Change.{changed, with_tags}
+use Rattle.tk_base.specs.Numbered.{IsRising}
+use Rattle.tk_tree.specs.Change.{with_tags}
+use Rattle.tk_tree.specs.Changing.{changed}
 use Rattle.tk_tree.specs.declared.change.WindowChange.TheVariants.{Tags}
 use Rattle.tk_tree.specs.Shared.{own_of}
 use Rattle.tk_tree.specs.Window.{number_of}

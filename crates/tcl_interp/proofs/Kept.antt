@@ -1,4 +1,4 @@
--- A property of what the object of the outside commands shows, which their calls and tasks keep, is kept by every script.
+-- A property of what the object of the outside commands shows, which these commands keep, is kept by every script.
 use Rattle.std.proofs.Common.{ℕ, zero, suc, Bool, true, false, cond, List, [], ◌∷◌, ◌++◌, length, nat_le, Option, Some, None, Result, Ok, Err}
 use Rattle.tcl_words.specs.declared.script.Command.{Command}
 use Rattle.tcl_words.specs.declared.script.Word.{Word}
@@ -33,7 +33,9 @@ use Rattle.tcl_interp.specs.Evaluation.{State, Outcome, Ended, OutOfSteps, seen_
 use Rattle.tcl_interp.specs.Plans.{with_first_levels, others, levels_back, procedure_ended, caught, on_tested, loop_ended, after_body, after_next, run_at, next_iteration, test_meaning, iteration_meaning, iterations_meaning, loop_meaning, plan_meaning}
 use Rattle.tcl_interp.specs.Expressions.{value_ended, with_truth, on_value, if_holds, run_meaning, tree_meaning, expression_meaning, condition_meaning, otherwise_meaning, choices_meaning}
 use Rattle.tcl_interp.specs.Acts.{on_act, resumed, after_step, task_meaning, act_meaning, script_meaning, outside_meaning}
-use Rattle.tcl_interp.specs.Scripts.{out_of_global, by_call, call_meaning, on_parsed}
+pub use Rattle.tcl_interp.specs.ScriptLaws.{Kept, KeepsRun}
+use Rattle.tcl_interp.specs.ScriptLaws.{CommandsKeep, KeepsCommand}
+use Rattle.tcl_interp.specs.Scripts.{CommandMeaning, out_of_global, by_call, call_meaning, on_parsed, scripts_by}
 
 module _ {S : Type 0} (P : S → Type 0) where
   -- the calls and the tasks keep it
@@ -42,123 +44,114 @@ module _ {S : Type 0} (P : S → Type 0) where
       ((shows : S) (store : Store) (words : List (List ℕ)) → P shows → P (outside.calls shows store words).shows)
       × ((shows : S) (store : Store) (task : K) (code : Code) (text : List ℕ) → P shows → P (outside.resumes shows store task code text).shows)
 
-  -- where something ends, the property holds
-  abbrev pub Kept : Outcome S → Type 0
-  Kept (Ended state code text) = P state.shows
-  Kept (OutOfSteps state) = Unit {0}
-
-  -- how a script is run, or a command called, keeps it
-  abbrev pub KeepsRun : {A : Type 0} → (A → State S → Outcome S) → Type 0
-  KeepsRun {A} run = (x : A) (state : State S) → P state.shows → Kept (run x state)
-
-  pub kept_and_then : (o : Outcome S) (f : State S → Code → List ℕ → Outcome S) → Kept o → ((state : State S) (code : Code) (text : List ℕ) → P state.shows → Kept (f state code text)) → Kept (and_then o f)
+  pub kept_and_then : (o : Outcome S) (f : State S → Code → List ℕ → Outcome S) → Kept P o → ((state : State S) (code : Code) (text : List ℕ) → P state.shows → Kept P (f state code text)) → Kept P (and_then o f)
   kept_and_then (Ended state code text) f w h = h state code text w
   kept_and_then (OutOfSteps state) f w h = tt
 
-  pub kept_on_normal : (f : State S → List ℕ → Outcome S) → ((state : State S) (text : List ℕ) → P state.shows → Kept (f state text)) → (state : State S) (code : Code) (text : List ℕ) → P state.shows → Kept (on_normal f state code text)
+  pub kept_on_normal : (f : State S → List ℕ → Outcome S) → ((state : State S) (text : List ℕ) → P state.shows → Kept P (f state text)) → (state : State S) (code : Code) (text : List ℕ) → P state.shows → Kept P (on_normal f state code text)
   kept_on_normal f h state Normal text w = h state text w
   kept_on_normal f h state Error text w = w
   kept_on_normal f h state (Return code) text w = w
   kept_on_normal f h state Break text w = w
   kept_on_normal f h state Continue text w = w
 
-  pub kept_stepped : (left : ℕ) (state : State S) (f : State S → Outcome S) → P state.shows → ((state : State S) → P state.shows → Kept (f state)) → Kept (stepped left state f)
+  pub kept_stepped : (left : ℕ) (state : State S) (f : State S → Outcome S) → P state.shows → ((state : State S) → P state.shows → Kept P (f state)) → Kept P (stepped left state f)
   kept_stepped zero state f w h = tt
   kept_stepped (suc left) state f w h = h (record state { steps = left }) w
 
-  pub kept_on_read : (name : List ℕ) (state : State S) (f : State S → List ℕ → Outcome S) (value : Result (List ℕ) ReadFault) → P state.shows → ((text : List ℕ) → Kept (f state text)) → Kept (on_read name state f value)
+  pub kept_on_read : (name : List ℕ) (state : State S) (f : State S → List ℕ → Outcome S) (value : Result (List ℕ) ReadFault) → P state.shows → ((text : List ℕ) → Kept P (f state text)) → Kept P (on_read name state f value)
   kept_on_read name state f (Ok value) w h = h value
   kept_on_read name state f (Err fault) w h = w
 
-  pub kept_cond : (b : Bool) (o p : Outcome S) → Kept o → Kept p → Kept (cond b o p)
+  pub kept_cond : (b : Bool) (o p : Outcome S) → Kept P o → Kept P p → Kept P (cond b o p)
   kept_cond true o p w v = w
   kept_cond false o p w v = v
 
-  pub kept_on_words : (state : State S) (f : State S → List (List ℕ) → Outcome S) (words : Result (List (List ℕ)) (List ℕ)) → P state.shows → ((more : List (List ℕ)) → Kept (f state more)) → Kept (on_words state f words)
+  pub kept_on_words : (state : State S) (f : State S → List (List ℕ) → Outcome S) (words : Result (List (List ℕ)) (List ℕ)) → P state.shows → ((more : List (List ℕ)) → Kept P (f state more)) → Kept P (on_words state f words)
   kept_on_words state f (Ok more) w h = h more
   kept_on_words state f (Err text) w h = w
 
-  kept_on_index : (state : State S) (f : List Piece → Outcome S) (pieces : Result (List Piece) ParseFault) → P state.shows → ((ps : List Piece) → Kept (f ps)) → Kept (on_index state f pieces)
+  kept_on_index : (state : State S) (f : List Piece → Outcome S) (pieces : Result (List Piece) ParseFault) → P state.shows → ((ps : List Piece) → Kept P (f ps)) → Kept P (on_index state f pieces)
   kept_on_index state f (Ok pieces) w h = h pieces
   kept_on_index state f (Err fault) w h = w
 
   -- how an element is read keeps it
   abbrev pub KeepsElement : (List ℕ → List ℕ → State S → Outcome S) → Type 0
-  KeepsElement element = (name index : List ℕ) (state : State S) → P state.shows → Kept (element name index state)
+  KeepsElement element = (name index : List ℕ) (state : State S) → P state.shows → Kept P (element name index state)
 
-  module _ (run : List ℕ → State S → Outcome S) (element : List ℕ → List ℕ → State S → Outcome S) (run_keeps : KeepsRun run) (element_keeps : KeepsElement element) where
-    pub kept_piece : (piece : Piece) (state : State S) (f : State S → List ℕ → Outcome S) → P state.shows → ((state' : State S) (text : List ℕ) → P state'.shows → Kept (f state' text)) → Kept (piece_meaning run element piece state f)
+  module _ (run : List ℕ → State S → Outcome S) (element : List ℕ → List ℕ → State S → Outcome S) (run_keeps : KeepsRun P run) (element_keeps : KeepsElement element) where
+    pub kept_piece : (piece : Piece) (state : State S) (f : State S → List ℕ → Outcome S) → P state.shows → ((state' : State S) (text : List ℕ) → P state'.shows → Kept P (f state' text)) → Kept P (piece_meaning run element piece state f)
     kept_piece (Literal text) state f w h = h state text w
     kept_piece (Variable name) state f w h = kept_on_read name state f (variable_in state.store (seen_level state) name) w (λ text. h state text w)
     kept_piece (Element name index) state f w h = kept_and_then (element name index state) (on_normal f) (element_keeps name index state w) (kept_on_normal f h)
     kept_piece (Bracket script) state f w h = kept_and_then (run script state) (on_normal f) (run_keeps script state w) (kept_on_normal f h)
 
-    pub kept_pieces : (pieces : List Piece) (so_far : List ℕ) (state : State S) (f : State S → List ℕ → Outcome S) → P state.shows → ((state' : State S) (text : List ℕ) → P state'.shows → Kept (f state' text)) → Kept (pieces_meaning run element pieces so_far state f)
+    pub kept_pieces : (pieces : List Piece) (so_far : List ℕ) (state : State S) (f : State S → List ℕ → Outcome S) → P state.shows → ((state' : State S) (text : List ℕ) → P state'.shows → Kept P (f state' text)) → Kept P (pieces_meaning run element pieces so_far state f)
     kept_pieces [] so_far state f w h = h state so_far w
     kept_pieces (piece ∷ pieces) so_far state f w h =
         kept_piece piece state _ w (λ state' text w'.
         kept_cond (nat_le (length (so_far ++ text)) 65536) _ _ (kept_pieces pieces (so_far ++ text) state' f w' h) w')
 
-  pub kept_element : (run : List ℕ → State S → Outcome S) → KeepsRun run → (depth : ℕ) → KeepsElement (element_meaning run depth)
+  pub kept_element : (run : List ℕ → State S → Outcome S) → KeepsRun P run → (depth : ℕ) → KeepsElement (element_meaning run depth)
   kept_element run run_keeps zero name index state w = w
   kept_element run run_keeps (suc depth) name index state w =
       kept_on_index state (λ ps. pieces_meaning run (element_meaning run depth) ps [] state (element_read name)) (index_pieces index) w (λ ps.
       kept_pieces run (element_meaning run depth) run_keeps (kept_element run run_keeps depth) ps [] state (element_read name) w
       (λ state' text w'. kept_on_read (element_name name text) state' (λ state'' value. Ended state'' Normal value) (element_in state'.store (seen_level state') name text) w' (λ value. w')))
 
-  module _ (run : List ℕ → State S → Outcome S) (call : List (List ℕ) → State S → Outcome S) (run_keeps : KeepsRun run) where
-    pub kept_words : (words : List Word) (whole : List (List ℕ)) (state : State S) (f : State S → List (List ℕ) → Outcome S) → P state.shows → ((state' : State S) (all : List (List ℕ)) → P state'.shows → Kept (f state' all)) → Kept (words_meaning run call words whole state f)
+  module _ (run : List ℕ → State S → Outcome S) (call : List (List ℕ) → State S → Outcome S) (run_keeps : KeepsRun P run) where
+    pub kept_words : (words : List Word) (whole : List (List ℕ)) (state : State S) (f : State S → List (List ℕ) → Outcome S) → P state.shows → ((state' : State S) (all : List (List ℕ)) → P state'.shows → Kept P (f state' all)) → Kept P (words_meaning run call words whole state f)
     kept_words [] whole state f w h = h state whole w
     kept_words (word ∷ words) whole state f w h =
         kept_pieces run (element_meaning run index_depth) run_keeps (kept_element run run_keeps index_depth) word.pieces [] state _ w (λ state' text w'.
         kept_on_words state' (λ state'' more. words_meaning run call words (whole ++ more) state'' f) (words_of word.expand text) w' (λ more. kept_words words (whole ++ more) state' f w' h))
 
-    pub kept_called : KeepsRun call → (state : State S) (words : List (List ℕ)) → P state.shows → Kept (called run call state words)
+    pub kept_called : KeepsRun P call → (state : State S) (words : List (List ℕ)) → P state.shows → Kept P (called run call state words)
     kept_called c state [] w = w
     kept_called c state (name ∷ arguments) w = kept_stepped state.steps state _ w (λ state' w'. c (name ∷ arguments) state' w')
 
-    pub kept_commands : KeepsRun call → (commands : List Command) (result : List ℕ) (state : State S) → P state.shows → Kept (commands_meaning run call commands result state)
+    pub kept_commands : KeepsRun P call → (commands : List Command) (result : List ℕ) (state : State S) → P state.shows → Kept P (commands_meaning run call commands result state)
     kept_commands c [] result state w = w
     kept_commands c (command ∷ commands) result state w =
         kept_and_then _ _ (kept_words command.words [] state _ w (λ state' all w'. kept_called c state' all w'))
         (kept_on_normal _ (λ state' text w'. kept_commands c commands text state' w'))
 
-  kept_on_tested : (state : State S) (f : List Group → State S → Outcome S) (test : Tested) → P state.shows → ((after : List Group) (state' : State S) → P state'.shows → Kept (f after state')) → Kept (on_tested state f test)
+  kept_on_tested : (state : State S) (f : List Group → State S → Outcome S) (test : Tested) → P state.shows → ((after : List Group) (state' : State S) → P state'.shows → Kept P (f after state')) → Kept P (on_tested state f test)
   kept_on_tested state f (More store after) w h = h after (record state { store = store }) w
   kept_on_tested state f (NoMore store) w h = w
   kept_on_tested state f (Fails store text) w h = w
 
-  pub kept_after_body : (again : State S → Outcome S) → ((state : State S) → P state.shows → Kept (again state)) → (state : State S) (code : Code) (text : List ℕ) → P state.shows → Kept (after_body again state code text)
+  pub kept_after_body : (again : State S → Outcome S) → ((state : State S) → P state.shows → Kept P (again state)) → (state : State S) (code : Code) (text : List ℕ) → P state.shows → Kept P (after_body again state code text)
   kept_after_body again h state Normal text w = h state w
   kept_after_body again h state Continue text w = h state w
   kept_after_body again h state Break text w = w
   kept_after_body again h state Error text w = w
   kept_after_body again h state (Return code) text w = w
 
-  pub kept_after_next : (again : State S → Outcome S) → ((state : State S) → P state.shows → Kept (again state)) → (state : State S) (code : Code) (text : List ℕ) → P state.shows → Kept (after_next again state code text)
+  pub kept_after_next : (again : State S → Outcome S) → ((state : State S) → P state.shows → Kept P (again state)) → (state : State S) (code : Code) (text : List ℕ) → P state.shows → Kept P (after_next again state code text)
   kept_after_next again h state Normal text w = h state w
   kept_after_next again h state Continue text w = w
   kept_after_next again h state Break text w = w
   kept_after_next again h state Error text w = w
   kept_after_next again h state (Return code) text w = w
 
-  kept_on_truth : (state : State S) (f : Bool → State S → Outcome S) (truth : Result Bool (List ℕ)) → P state.shows → ((holds : Bool) (state' : State S) → P state'.shows → Kept (f holds state')) → Kept (with_truth state f truth)
+  kept_on_truth : (state : State S) (f : Bool → State S → Outcome S) (truth : Result Bool (List ℕ)) → P state.shows → ((holds : Bool) (state' : State S) → P state'.shows → Kept P (f holds state')) → Kept P (with_truth state f truth)
   kept_on_truth state f (Ok holds) w h = h holds state w
   kept_on_truth state f (Err text) w h = w
 
-  pub kept_on_value : (f : Bool → State S → Outcome S) → ((holds : Bool) (state' : State S) → P state'.shows → Kept (f holds state')) → (state : State S) (code : Code) (text : List ℕ) → P state.shows → Kept (on_value f state code text)
+  pub kept_on_value : (f : Bool → State S → Outcome S) → ((holds : Bool) (state' : State S) → P state'.shows → Kept P (f holds state')) → (state : State S) (code : Code) (text : List ℕ) → P state.shows → Kept P (on_value f state code text)
   kept_on_value f h = kept_on_normal _ (λ state value w. kept_on_truth state f (truth_of_text value) w h)
 
-  pub kept_if : (first second : State S → Outcome S) → ((state : State S) → P state.shows → Kept (first state)) → ((state : State S) → P state.shows → Kept (second state)) → (holds : Bool) (state : State S) → P state.shows → Kept (if_holds first second holds state)
+  pub kept_if : (first second : State S → Outcome S) → ((state : State S) → P state.shows → Kept P (first state)) → ((state : State S) → P state.shows → Kept P (second state)) → (holds : Bool) (state : State S) → P state.shows → Kept P (if_holds first second holds state)
   kept_if first second y z true state w = y state w
   kept_if first second y z false state w = z state w
 
-  kept_value_ended : (state : State S) (result : Result (List ℕ) EvalFault) → P state.shows → Kept (value_ended state result)
+  kept_value_ended : (state : State S) (result : Result (List ℕ) EvalFault) → P state.shows → Kept P (value_ended state result)
   kept_value_ended state (Ok value) w = w
   kept_value_ended state (Err fault) w = w
 
-  module _ (run : List ℕ → State S → Outcome S) (run_keeps : KeepsRun run) where
-    pub kept_run : (r : Evaluating) (state : State S) → P state.shows → Kept (run_meaning run r state)
+  module _ (run : List ℕ → State S → Outcome S) (run_keeps : KeepsRun P run) where
+    pub kept_run : (r : Evaluating) (state : State S) → P state.shows → Kept P (run_meaning run r state)
     kept_run (AsksVariable name go) state w = kept_on_read name state (λ state' value. run_meaning run (go value) state') (variable_in state.store (seen_level state) name) w (λ value. kept_run (go value) state w)
     kept_run (AsksElement array index go) state w =
         kept_on_read (element_name array index) state (λ state' value. run_meaning run (go value) state') (element_in state.store (seen_level state) array index) w (λ value. kept_run (go value) state w)
@@ -167,50 +160,50 @@ module _ {S : Type 0} (P : S → Type 0) where
         (kept_on_normal (λ state' value. run_meaning run (go value) state') (λ state' value w'. kept_run (go value) state' w'))
     kept_run (Ends result) state w = kept_value_ended state result w
 
-    kept_tree : (state : State S) (tree : Result Tree (List ℕ)) → P state.shows → Kept (tree_meaning run state tree)
+    kept_tree : (state : State S) (tree : Result Tree (List ℕ)) → P state.shows → Kept P (tree_meaning run state tree)
     kept_tree state (Ok tree) w = kept_run (evaluation tree) state w
     kept_tree state (Err text) w = w
 
-    pub kept_expression : (text : List ℕ) (state : State S) → P state.shows → Kept (expression_meaning run text state)
+    pub kept_expression : (text : List ℕ) (state : State S) → P state.shows → Kept P (expression_meaning run text state)
     kept_expression text state w = kept_tree state (expression_of text) w
 
-    pub kept_condition : (text : List ℕ) (f : Bool → State S → Outcome S) (state : State S) → P state.shows → ((holds : Bool) (state' : State S) → P state'.shows → Kept (f holds state')) → Kept (condition_meaning run text f state)
+    pub kept_condition : (text : List ℕ) (f : Bool → State S → Outcome S) (state : State S) → P state.shows → ((holds : Bool) (state' : State S) → P state'.shows → Kept P (f holds state')) → Kept P (condition_meaning run text f state)
     kept_condition text f state w h = kept_and_then (expression_meaning run text state) (on_value f) (kept_expression text state w) (kept_on_value f h)
 
-    pub kept_otherwise : (otherwise : Option (List ℕ)) (state : State S) → P state.shows → Kept (otherwise_meaning run otherwise state)
+    pub kept_otherwise : (otherwise : Option (List ℕ)) (state : State S) → P state.shows → Kept P (otherwise_meaning run otherwise state)
     kept_otherwise (Some body) state w = run_keeps body state w
     kept_otherwise None state w = w
 
-    pub kept_choices : (branches : List Branch) (otherwise : Option (List ℕ)) (state : State S) → P state.shows → Kept (choices_meaning run branches otherwise state)
+    pub kept_choices : (branches : List Branch) (otherwise : Option (List ℕ)) (state : State S) → P state.shows → Kept P (choices_meaning run branches otherwise state)
     kept_choices [] otherwise state w = kept_otherwise otherwise state w
     kept_choices (branch ∷ branches) otherwise state w =
         kept_condition branch.test _ state w
         (kept_if (run branch.body) (choices_meaning run branches otherwise) (λ state' w'. run_keeps branch.body state' w') (λ state' w'. kept_choices branches otherwise state' w'))
 
-    pub kept_run_at : (count : ℕ) (script : List ℕ) (state : State S) → P state.shows → Kept (run_at run count script state)
+    pub kept_run_at : (count : ℕ) (script : List ℕ) (state : State S) → P state.shows → Kept P (run_at run count script state)
     kept_run_at count script state w =
         kept_and_then (run script (record state { context = with_first_levels count state.context })) (levels_back (others count state.context)) (run_keeps script (record state { context = with_first_levels count state.context }) w) (λ state' code text w'. w')
 
-    pub kept_next : (next : Option (List ℕ)) (again : State S → Outcome S) → ((state : State S) → P state.shows → Kept (again state)) → (state : State S) → P state.shows → Kept (next_iteration run next again state)
+    pub kept_next : (next : Option (List ℕ)) (again : State S → Outcome S) → ((state : State S) → P state.shows → Kept P (again state)) → (state : State S) → P state.shows → Kept P (next_iteration run next again state)
     kept_next None again h state w = h state w
     kept_next (Some script) again h state w = kept_and_then (run script state) (after_next again) (run_keeps script state w) (kept_after_next again h)
 
-    kept_test : (test : Test) (body : Test → State S → Outcome S) (state : State S) → P state.shows → ((after : Test) (state' : State S) → P state'.shows → Kept (body after state')) → Kept (test_meaning run test body state)
+    kept_test : (test : Test) (body : Test → State S → Outcome S) (state : State S) → P state.shows → ((after : Test) (state' : State S) → P state'.shows → Kept P (body after state')) → Kept P (test_meaning run test body state)
     kept_test (Holds condition) body state w h = kept_condition condition _ state w (kept_if (body (Holds condition)) loop_ended (h (Holds condition)) (λ state' w'. w'))
     kept_test (Items groups) body state w h = kept_on_tested state _ (items_tested (seen_level state) groups state.store) w (λ left state' w'. h (Items left) state' w')
 
-    pub kept_iteration : (looping : Loop) (again : State S → Outcome S) → ((state : State S) → P state.shows → Kept (again state)) → (state : State S) → P state.shows → Kept (iteration_meaning run looping again state)
+    pub kept_iteration : (looping : Loop) (again : State S → Outcome S) → ((state : State S) → P state.shows → Kept P (again state)) → (state : State S) → P state.shows → Kept P (iteration_meaning run looping again state)
     kept_iteration looping again h state w =
         kept_and_then (run looping.body state) (after_body (next_iteration run looping.next again)) (run_keeps looping.body state w) (kept_after_body _ (kept_next looping.next again h))
 
-    pub kept_iterations : (looping : Loop) (iterations : ℕ) (state : State S) → P state.shows → Kept (iterations_meaning run looping iterations state)
+    pub kept_iterations : (looping : Loop) (iterations : ℕ) (state : State S) → P state.shows → Kept P (iterations_meaning run looping iterations state)
     kept_iterations looping zero state w = tt
     kept_iterations looping (suc iterations) state w =
         kept_stepped state.steps state _ w (λ state' w'.
         kept_test looping.test _ state' w' (λ test state'' w''.
         kept_iteration looping (iterations_meaning run (record looping { test = test }) iterations) (λ state3 w3. kept_iterations (record looping { test = test }) iterations state3 w3) state'' w''))
 
-    kept_plan : (p : Plan) (state : State S) → P state.shows → Kept (plan_meaning run p state)
+    kept_plan : (p : Plan) (state : State S) → P state.shows → Kept P (plan_meaning run p state)
     kept_plan (plan.Ends code text) state w = w
     kept_plan (plan.Runs script) state w = run_keeps script state w
     kept_plan (plan.Catches script name) state w = kept_and_then (run script state) (caught name) (run_keeps script state w) (λ state' code text w'. w')
@@ -223,50 +216,58 @@ module _ {S : Type 0} (P : S → Type 0) where
         kept_and_then (run script state) (on_normal (λ state' text. loop_meaning run looping state')) (run_keeps script state w)
         (kept_on_normal (λ state' text. loop_meaning run looping state') (λ state' text w'. kept_iterations looping state'.steps state' w'))
 
-  module _ {K : Type 0} (outside : Outside S K) (keeps : Keeps outside) (run : List ℕ → State S → Outcome S) (run_keeps : KeepsRun run) where
-    kept_on_act : (f : K → State S → Outcome S) (g : K → State S → Code → List ℕ → Outcome S) → ((task : K) (state : State S) → P state.shows → Kept (f task state)) → ((task : K) (state : State S) (code : Code) (text : List ℕ) → P state.shows → Kept (g task state code text)) → (name : List ℕ) (state : State S) (act : Act K) → P state.shows → Kept (on_act run f g name state act)
+  module _ {K : Type 0} (outside : Outside S K) (keeps : Keeps outside) (run : List ℕ → State S → Outcome S) (run_keeps : KeepsRun P run) where
+    kept_on_act : (f : K → State S → Outcome S) (g : K → State S → Code → List ℕ → Outcome S) → ((task : K) (state : State S) → P state.shows → Kept P (f task state)) → ((task : K) (state : State S) (code : Code) (text : List ℕ) → P state.shows → Kept P (g task state code text)) → (name : List ℕ) (state : State S) (act : Act K) → P state.shows → Kept P (on_act run f g name state act)
     kept_on_act f g h k name state (Done code text) w = w
     kept_on_act f g h k name state (Step task) w = kept_stepped state.steps state (f task) w (h task)
     kept_on_act f g h k name state (Run script task) w =
         kept_and_then (run_at run 1 script state) (λ state' code text. g task state' (out_of_global code) text) (kept_run_at run run_keeps 1 script state w) (λ state' code text w'. k task state' (out_of_global code) text w')
     kept_on_act f g h k name state Unknown w = w
 
-    kept_resumed : (f : K → State S → Outcome S) → ((task : K) (state : State S) → P state.shows → Kept (f task state)) → (size : ℕ) (task : K) (state : State S) (code : Code) (text : List ℕ) → P state.shows → Kept (resumed outside run f size task state code text)
+    kept_resumed : (f : K → State S → Outcome S) → ((task : K) (state : State S) → P state.shows → Kept P (f task state)) → (size : ℕ) (task : K) (state : State S) (code : Code) (text : List ℕ) → P state.shows → Kept P (resumed outside run f size task state code text)
     kept_resumed f h zero task state code text w =
         kept_on_act f (λ _ state' _ _. OutOfSteps state') h (λ task' state' code' text' w'. tt) [] _ (outside.resumes state.shows state.store task code text).act (keeps.1 state.shows state.store task code text w)
     kept_resumed f h (suc size) task state code text w =
         kept_on_act f (resumed outside run f size) h (λ task' state' code' text' w'. kept_resumed f h size task' state' code' text' w') [] _ (outside.resumes state.shows state.store task code text).act (keeps.1 state.shows state.store task code text w)
 
-    pub kept_after_step : (iterations : ℕ) (task : K) (state : State S) → P state.shows → Kept (after_step outside run iterations task state)
+    pub kept_after_step : (iterations : ℕ) (task : K) (state : State S) → P state.shows → Kept P (after_step outside run iterations task state)
     kept_after_step zero task state w = tt
     kept_after_step (suc iterations) task state w = kept_resumed (after_step outside run iterations) (kept_after_step iterations) (outside.size task) task state Normal [] w
 
-    pub kept_task : (task : K) (state : State S) (code : Code) (text : List ℕ) → P state.shows → Kept (task_meaning outside run task state code text)
+    pub kept_task : (task : K) (state : State S) (code : Code) (text : List ℕ) → P state.shows → Kept P (task_meaning outside run task state code text)
     kept_task task state code text w = kept_resumed (after_step outside run state.steps) (kept_after_step state.steps) (outside.size task) task state code text w
 
-    kept_act : (name : List ℕ) (state : State S) (act : Act K) → P state.shows → Kept (act_meaning outside run name state act)
+    kept_act : (name : List ℕ) (state : State S) (act : Act K) → P state.shows → Kept P (act_meaning outside run name state act)
     kept_act name state act w = kept_on_act (after_step outside run state.steps) (task_meaning outside run) (kept_after_step state.steps) (kept_task) name state act w
 
-    kept_by_call : (name : List ℕ) (arguments : List (List ℕ)) (state : State S) (c : Call) → P state.shows → Kept (by_call (outside_meaning outside) run name arguments state c)
-    kept_by_call name arguments state (call.Plans p) w = kept_plan run run_keeps p state w
-    kept_by_call name arguments state (call.Outside first) w = kept_act name _ (outside.calls state.shows state.store (first ∷ arguments)).act (keeps.0 state.shows state.store (first ∷ arguments) w)
-    kept_by_call name arguments state call.Unknown w = w
+    pub kept_outside : KeepsCommand P (outside_meaning outside run)
+    kept_outside name first arguments state w = kept_act name _ (outside.calls state.shows state.store (first ∷ arguments)).act (keeps.0 state.shows state.store (first ∷ arguments) w)
 
-    pub kept_call : KeepsRun (call_meaning (outside_meaning outside) run)
-    kept_call [] state w = w
-    kept_call (name ∷ arguments) state w =
-        let c : Called = call_of name arguments state.store state.context in
-        kept_by_call name arguments (record state { store = c.store; context = c.context }) c.call w
-
-  kept_on_parsed : (f : List Command → Outcome S) (state : State S) (script : Result (List Command) ParseFault) → P state.shows → ((commands : List Command) → Kept (f commands)) → Kept (on_parsed f state script)
+  kept_on_parsed : (f : List Command → Outcome S) (state : State S) (script : Result (List Command) ParseFault) → P state.shows → ((commands : List Command) → Kept P (f commands)) → Kept P (on_parsed f state script)
   kept_on_parsed f state (Ok commands) w h = h commands
   kept_on_parsed f state (Err fault) w h = w
 
-  module _ {K : Type 0} (outside : Outside S K) (keeps : Keeps outside) where
-    -- the evaluation of a script keeps it
-    pub kept_script : (room : ℕ) → KeepsRun (script_meaning outside room)
-    kept_script zero text state w = w
-    kept_script (suc room) text state w =
+  module _ (command : CommandMeaning S) where
+    module _ (run : List ℕ → State S → Outcome S) (run_keeps : KeepsRun P run) (command_keeps : KeepsCommand P (command run)) where
+      kept_by_call : (name : List ℕ) (arguments : List (List ℕ)) (state : State S) (c : Call) → P state.shows → Kept P (by_call command run name arguments state c)
+      kept_by_call name arguments state (call.Plans p) w = kept_plan run run_keeps p state w
+      kept_by_call name arguments state (call.Outside first) w = command_keeps name first arguments state w
+      kept_by_call name arguments state call.Unknown w = w
+
+      pub kept_call : KeepsRun P (call_meaning command run)
+      kept_call [] state w = w
+      kept_call (name ∷ arguments) state w =
+          let c : Called = call_of name arguments state.store state.context in
+          kept_by_call name arguments (record state { store = c.store; context = c.context }) c.call w
+
+    -- the evaluation of a script keeps it, where the outside commands do
+    pub kept_scripts : CommandsKeep P command → (room : ℕ) → KeepsRun P (scripts_by command room)
+    kept_scripts keeps zero text state w = w
+    kept_scripts keeps (suc room) text state w =
         kept_on_parsed _ state (script_of text) w (λ commands.
-        kept_commands (script_meaning outside room) (call_meaning (outside_meaning outside) (script_meaning outside room)) (kept_script room)
-        (kept_call outside keeps (script_meaning outside room) (kept_script room)) commands [] state w)
+        kept_commands (scripts_by command room) (call_meaning command (scripts_by command room)) (kept_scripts keeps room)
+        (kept_call (scripts_by command room) (kept_scripts keeps room) (keeps room (kept_scripts keeps room))) commands [] state w)
+
+  pub kept_script : {K : Type 0} (outside : Outside S K) → Keeps outside → (room : ℕ) → KeepsRun P (script_meaning outside room)
+  kept_script outside keeps room =
+      kept_scripts (outside_meaning outside) (λ inner run_keeps. kept_outside outside keeps (script_meaning outside inner) run_keeps) room

@@ -21,7 +21,7 @@ use Rattle.tcl_control.specs.Levels.{here}
 use Rattle.tcl_control.specs.Texts.{limit_text, message, cannot_read_text, element_name}
 use Rattle.tcl_text.specs.Limits.{most_bytes, most_nested}
 
--- What the object of the outside commands shows, the variables, the levels and the commands, and how many steps are left.
+-- What commands beside Tcl's see and change, the variables, the levels and the commands, and how many steps are left.
 pub record State (S : Type 0) : Type 0 where
   pub shows : S
   pub store : Store

@@ -19,6 +19,7 @@ pub mod Quiet
 pub mod Replies
 pub mod Rests
 pub mod Runs
+pub mod ScriptLaws
 pub mod Scripts
 pub mod Simple
 pub mod Steps

@@ -1,5 +1,5 @@
 -- Meaning. The evaluation of a script, given what the commands of a program come to.
-use Rattle.std.specs.Prelude.{◌≡◌, ℕ, zero, suc, List, [], ◌∷◌, Result, Ok, Err}
+use Rattle.std.specs.Prelude.{ℕ, zero, suc, List, [], ◌∷◌, Result, Ok, Err}
 use Rattle.tcl_words.specs.declared.script.Command.{Command}
 use Rattle.tcl_text.specs.declared.fault.ParseFault.{ParseFault}
 use Rattle.tcl_text.specs.FaultTexts.{parse_text as text_of}
@@ -71,12 +71,3 @@ module _ {S : Type 0} (command : CommandMeaning S) where
   scripts_by zero text state = Ended state Error nesting_text
   scripts_by (suc room) text state =
       on_parsed (λ commands. commands_meaning (scripts_by room) (call_meaning command (scripts_by room)) commands [] state) state (script_of text)
-
--- ── one meaning ──
-
--- Two meanings of outside commands that agree, where scripts are run by the first, give every script the same meaning.
-abbrev pub ScriptsAgree : Type 0 → Type 0
-ScriptsAgree S = (one other : CommandMeaning S)
-    → ((room : ℕ) (name first : List ℕ) (arguments : List (List ℕ)) (state : State S)
-    → one (scripts_by one room) name first arguments state ≡ other (scripts_by one room) name first arguments state)
-    → (room : ℕ) → scripts_by one room ≡ scripts_by other room

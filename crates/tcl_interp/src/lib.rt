@@ -27,7 +27,7 @@ pub use job_laws::{ends_looked, goes_on, steps_fall, unrolls};
 pub use jobs::{Acted, Jobs, act_for, look_at, resume};
 pub use leaving_laws::{scripts_leave, tasks_leave};
 pub use loop_laws::{loops_go_on, scripts_take_no_steps_back};
-pub use script_laws::scripts_agree;
+pub use script_laws::{scripts_agree, scripts_agree_where};
 pub use tasks::{Act, Tasks};
 pub use tcl_control::{Code, ReturnCode};
 pub use tcl_table::{CommandPlace, ErrorNote, ScriptCache};

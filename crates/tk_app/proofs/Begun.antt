@@ -29,40 +29,41 @@ use Rattle.tk_commands.specs.Path.{path_told}
 use Rattle.tk_commands.specs.Screen.{screen_command_named}
 use Rattle.tk_window_commands.specs.Commands.{window_command_named}
 use Rattle.tk_app.specs.Begun.{DestroyBegins, GenerateBegins, IdleTasksAre, InvokeRuns, IsNoAlias, SelectBegins, UpdateBegins, UpdateIs, shown_with}
-use Rattle.tk_app.specs.Commands.{command_meaning, meant_by, outcome_meaning, panel_meaning, scripts_in}
+use Rattle.tk_app.specs.Commands.{Update, command_meaning, meant_by, outcome_meaning, panel_meaning, scripts_in}
 use Rattle.tk_app.specs.Dispatch.{with_panel_but_moment}
 use Rattle.tk_app.specs.Seen.{Seen}
-use Rattle.tk_app.proofs.Only.{only_update}
+use Rattle.tk_app.proofs.ByUpdate.{only_update}
 
-module _ (room : ℕ) (called name : List ℕ) (words : List (List ℕ)) (state : State Seen) (none : IsNoAlias name state) where
+module _ (update : Update) (room : ℕ) (called name : List ℕ) (words : List (List ℕ)) (state : State Seen) (none : IsNoAlias name state) where
   -- a command that no alias serves
-  unserved : command_meaning (scripts_in room) called name words state ≡ panel_meaning (scripts_in room) called (name ∷ words) state
-  unserved = ap (λ served. meant_by served (scripts_in room) called name words state) none
+  unserved : command_meaning update (scripts_in update room) called name words state ≡ panel_meaning update (scripts_in update room) called (name ∷ words) state
+  unserved = ap (λ served. meant_by update served (scripts_in update room) called name words state) none
 
   -- and what it comes to
   came_to : (came : Done) → panel_command (name ∷ words) state.shows.panel state.store ≡ came
-      → command_meaning (scripts_in room) called name words state ≡ outcome_meaning (scripts_in room) called came.outcome (record (with_panel_but_moment came.panel state) { store = came.store })
-  came_to came is = unserved ∙ ap (λ (c : Done). outcome_meaning (scripts_in room) called c.outcome (record (with_panel_but_moment c.panel state) { store = c.store })) is
+      → command_meaning update (scripts_in update room) called name words state ≡ outcome_meaning update (scripts_in update room) called came.outcome (record (with_panel_but_moment came.panel state) { store = came.store })
+  came_to came is = unserved ∙ ap (λ (c : Done). outcome_meaning update (scripts_in update room) called c.outcome (record (with_panel_but_moment c.panel state) { store = c.store })) is
 
 pub update_begins : UpdateBegins
 unfolding command_named command_done moment_command_done moment_command_named update_words screen_command_named window_command_named
-update_begins room called state none = unserved room called (codes "update") [] state none
+update_begins update room called state none = unserved update room called (codes "update") [] state none
 
 pub update_is : UpdateIs
-update_is room update meets called state none sound = update_begins room called state none ∙ sym (only_update room update meets state sound)
+update_is update meets room other is called state none sound =
+    update_begins update room called state none ∙ only_update update meets room (update (scripts_in update room)) (meets room) state sound ∙ sym (only_update update meets room other is state sound)
 
 pub idle_tasks_are : IdleTasksAre
 unfolding command_named command_done moment_command_done moment_command_named update_words screen_command_named window_command_named
-idle_tasks_are room called state none = unserved room called (codes "update") (codes "idletasks" ∷ []) state none
+idle_tasks_are update room called state none = unserved update room called (codes "update") (codes "idletasks" ∷ []) state none
 
 pub destroy_begins : DestroyBegins
 unfolding command_named command_done moment_command_done moment_command_named screen_command_named window_command_named
-destroy_begins room called paths state none = unserved room called (codes "destroy") paths state none
+destroy_begins update room called paths state none = unserved update room called (codes "destroy") paths state none
 
 pub invoke_runs : InvokeRuns
-invoke_runs room called name words script panel store state none is same =
-    came_to room called name words state none (done panel store (Acts (Script script))) is
-    ∙ ap (λ m. outcome_meaning (scripts_in room) called (Acts (Script script)) (shown_with (record panel { moment = m }) store state)) (sym same)
+invoke_runs update room called name words script panel store state none is same =
+    came_to update room called name words state none (done panel store (Acts (Script script))) is
+    ∙ ap (λ m. outcome_meaning update (scripts_in update room) called (Acts (Script script)) (shown_with (record panel { moment = m }) store state)) (sym same)
 
 module _ (words : List (List ℕ)) (panel : Panel) (store : Store) (generated : Generated)
     (is : generate_words words panel.input.focus (length panel.queue) panel.moment panel.windowing.tree ≡ Ok generated) (now : generated.when ≡ Now) where
@@ -73,9 +74,9 @@ module _ (words : List (List ℕ)) (panel : Panel) (store : Store) (generated : 
       ∙ ap (λ when. with_store store (generated_by_when when generated.event panel)) now
 
 pub generate_begins : GenerateBegins
-generate_begins room called words generated state none is now =
+generate_begins update room called words generated state none is now =
     let panel : Panel = state.shows.panel in
-    came_to room called (codes "event") (codes "generate" ∷ words) state none (done panel state.store (Begins (Dispatches generated.event))) (generates words panel state.store generated is now)
+    came_to update room called (codes "event") (codes "generate" ∷ words) state none (done panel state.store (Begins (Dispatches generated.event))) (generates words panel state.store generated is now)
 
 -- ── a selection ──
 
@@ -98,8 +99,8 @@ module _ (name : List ℕ) (command : ClassCommand) (words : List (List ℕ)) (n
       ∙ ap (λ found. with_store came.store (dispatched_if (selection_of panel.moment found) came.panel)) is_there
 
 pub select_begins : SelectBegins
-select_begins room called name command words number window state none plain named selects is_there =
+select_begins update room called name command words number window state none plain named selects is_there =
     let panel : Panel = state.shows.panel in
     let there : ClassDone = class_command command words panel state.store in
     let event : Event = bare_event (Virtual (codes "ListboxSelect")) window.number window.path panel.moment in
-    came_to room called name words state none (done there.panel there.store (Begins (Dispatches event))) (selection name command words number window panel state.store plain named selects is_there)
+    came_to update room called name words state none (done there.panel there.store (Begins (Dispatches event))) (selection name command words number window panel state.store plain named selects is_there)

@@ -3,21 +3,19 @@ use Rattle.std.proofs.Common.{◌≡◌, ℕ, sym, ap, ◌∙◌, subst}
 use Rattle.tk_panel.specs.declared.job.Home.TheVariants.{Update}
 use Rattle.tk_panel.specs.Start.{without_event}
 use Rattle.tk_commands.specs.Course.{settling as settling_to}
-use Rattle.tk_app.specs.Commands.{command_meaning, scripts_in, update_meaning}
+use Rattle.tk_app.specs.Commands.{command_meaning, scripts_in}
 use Rattle.tk_app.specs.Destroy.{destroy_meaning}
-use Rattle.tk_app.specs.Dispatch.{Run, dispatch_meaning, global_meaning}
+use Rattle.tk_app.specs.Dispatch.{RunsScripts, dispatch_meaning}
 use Rattle.tk_app.specs.Items.{idle_tasks_meaning, item_meaning, settle_item}
 use Rattle.tk_app.specs.JobLaws.{CommandsAreCalled, Destroys, Dispatches, ScriptsAreRun, UpdateGoes, UpdatesIdleTasks}
 use Rattle.tk_app.specs.Jobs.{meaning, meaning_by}
 use Rattle.tk_app.specs.Outside.{run_in}
-use Rattle.tk_app.specs.SettleJob.{Settles, Updates, settle_meaning}
-use Rattle.tk_app.specs.Sound.{EndsSound, KeepsSound}
+use Rattle.tk_app.specs.SettleJob.{Settles, Updates, settle_meaning, update_meaning}
 use Rattle.tk_app.proofs.Commands.{command_called, scripts_run}
 use Rattle.tk_app.proofs.Equations.{destroy_goes, dispatch_goes, idle_tasks_go, settle_goes, update_goes}
-use Rattle.tk_app.proofs.Sound.{jobs_sound, scripts_sound}
 
 -- what holds of scripts as they are run
-by_run : (P : Run → Type 0) (room : ℕ) → P (run_in room) → P (scripts_in room)
+by_run : (P : RunsScripts → Type 0) (room : ℕ) → P (run_in room) → P (scripts_in update_meaning room)
 by_run P room holds = subst P (sym (scripts_run room)) holds
 
 pub scripts_are_run : ScriptsAreRun
@@ -25,31 +23,25 @@ scripts_are_run room = scripts_run room
 
 pub commands_are_called : CommandsAreCalled
 commands_are_called room called name words state =
-    ap (λ (run : Run). command_meaning run called name words state) (scripts_run room) ∙ sym (command_called room called name words state)
+    ap (λ (run : RunsScripts). command_meaning update_meaning run called name words state) (scripts_run room) ∙ sym (command_called room called name words state)
 
 pub dispatches : Dispatches
 dispatches room event rest state =
-    dispatch_goes room event rest state ∙ ap (λ (run : Run). dispatch_meaning run event (meaning room (without_event rest)) state) (sym (scripts_run room))
+    dispatch_goes room event rest state ∙ ap (λ (run : RunsScripts). dispatch_meaning run event (meaning room (without_event rest)) state) (sym (scripts_run room))
 
 pub destroys_all : Destroys
-destroys_all room paths state = destroy_goes room paths state ∙ ap (λ (run : Run). destroy_meaning run paths state) (sym (scripts_run room))
+destroys_all room paths state = destroy_goes room paths state ∙ ap (λ (run : RunsScripts). destroy_meaning run paths state) (sym (scripts_run room))
 
 pub updates_idle : UpdatesIdleTasks
-updates_idle room state = idle_tasks_go room state ∙ ap (λ (run : Run). idle_tasks_meaning run state) (sym (scripts_run room))
+updates_idle room state = idle_tasks_go room state ∙ ap (λ (run : RunsScripts). idle_tasks_meaning run state) (sym (scripts_run room))
 
 pub update_job : UpdateGoes
 unfolding update_meaning
-update_job room state = ap (λ (run : Run). meaning_by run (settling_to Update) state) (sym (scripts_run room))
+update_job room state = ap (λ (run : RunsScripts). meaning_by run (settling_to Update) state) (sym (scripts_run room))
 
 pub updates : Updates
 unfolding update_meaning
-updates room state sound = by_run (λ (run : Run). meaning_by run (settling_to Update) state ≡ item_meaning run (meaning_by run (settling_to Update)) state) room (update_goes room state sound)
+updates room state sound = by_run (λ (run : RunsScripts). meaning_by run (settling_to Update) state ≡ item_meaning run (meaning_by run (settling_to Update)) state) room (update_goes room state sound)
 
 pub settles_all : Settles
-settles_all state sound = settle_goes state sound ∙ ap (λ (run : Run). settle_item run settle_meaning state) (sym (scripts_run 200))
-
-pub keeps_sound : KeepsSound
-keeps_sound room state sound = (
-  (λ script. by_run (λ (run : Run). EndsSound (global_meaning run script state)) room (scripts_sound room state sound script)),
-  (λ job. jobs_sound room state sound job),
-)
+settles_all state sound = settle_goes state sound ∙ ap (λ (run : RunsScripts). settle_item run settle_meaning state) (sym (scripts_run 200))

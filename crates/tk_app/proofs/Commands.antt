@@ -31,11 +31,12 @@ use Rattle.tk_commands.specs.declared.outcome.CommandOutcome.{CommandOutcome}
 use Rattle.tk_commands.specs.declared.outcome.CommandOutcome.TheVariants as outcome
 use Rattle.tk_commands.specs.Outcomes.{Done}
 use Rattle.tk_app.specs.Begun.{shown_with}
-use Rattle.tk_app.specs.Commands.{begun_meaning, command_meaning, ends_there, meant_by, outcome_meaning, scripts_in, update_meaning}
+use Rattle.tk_app.specs.Commands.{begun_meaning, command_meaning, ends_there, meant_by, outcome_meaning, scripts_in}
 use Rattle.tk_app.specs.Dispatch.{global_meaning, with_panel_but_moment, with_whole_panel}
 use Rattle.tk_app.specs.Jobs.{meaning}
 use Rattle.tk_app.specs.Outside.{act_of as alias_answer, by_panel, called_as, outside, run_in}
 use Rattle.tk_app.specs.Seen.{Meaning, Seen, served_by}
+use Rattle.tk_app.specs.SettleJob.{update_meaning}
 use Rattle.tk_app.proofs.CommandMoments.{command_moment}
 use Rattle.tk_app.proofs.Equations.{bound_same, destroy_goes, dispatch_goes, idle_tasks_go}
 use Rattle.tk_app.proofs.Nexts.{goes_by_next}
@@ -61,7 +62,7 @@ module _ (room : ℕ) (called : List ℕ) where
       ∙ same_name there.1 (record state { shows = record seen { panel = record there.0 { moment = panel.moment } }; store = store })
 
   begun_goes : (begun : Begun) (panel : Panel) (store : Store) (state : State Seen) → panel.moment ≡ state.shows.panel.moment
-      → by_told state (by_panel state.shows (goes_on begun panel store)) ≡ begun_meaning (run_in room) begun (shown_with panel store state)
+      → by_told state (by_panel state.shows (goes_on begun panel store)) ≡ begun_meaning update_meaning (run_in room) begun (shown_with panel store state)
   unfolding update_meaning
   begun_goes Updates panel store state same = job_goes (settling_to Update) panel store state same
   begun_goes UpdatesIdleTasks panel store state same = job_goes (settling_to IdleTasks) panel store state same ∙ idle_tasks_go room (shown_with panel store state)
@@ -88,33 +89,33 @@ module _ (room : ℕ) (called : List ℕ) where
   ends_invoked (OutOfSteps left) = refl
 
   outcome_goes : (came : CommandOutcome) (panel : Panel) (store : Store) (state : State Seen) → panel.moment ≡ state.shows.panel.moment
-      → by_told state (by_panel state.shows (outcome_told came panel store)) ≡ outcome_meaning (run_in room) called came (record (with_panel_but_moment panel state) { store = store })
+      → by_told state (by_panel state.shows (outcome_told came panel store)) ≡ outcome_meaning update_meaning (run_in room) called came (record (with_panel_but_moment panel state) { store = store })
   outcome_goes (outcome.Acts (widget.Answer text)) panel store state same = refl
   outcome_goes (outcome.Acts (widget.Fault text)) panel store state same = refl
   outcome_goes (outcome.Acts (widget.Script script)) panel store state same =
       ends_invoked (global_meaning (run_in room) script (record (with_panel_but_moment panel state) { store = store }))
   outcome_goes (outcome.Begins begun) panel store state same =
       begun_goes begun panel store state same
-      ∙ ap (λ m. begun_meaning (run_in room) begun (shown_with (record panel { moment = m }) store state)) same
+      ∙ ap (λ m. begun_meaning update_meaning (run_in room) begun (shown_with (record panel { moment = m }) store state)) same
   outcome_goes outcome.Unknown panel store state same = refl
 
   pub command_called : (name : List ℕ) (words : List (List ℕ)) (state : State Seen)
-      → outside_meaning outside (run_in room) called name words state ≡ command_meaning (run_in room) called name words state
+      → outside_meaning outside (run_in room) called name words state ≡ command_meaning update_meaning (run_in room) called name words state
   unfolding panel_calls
   command_called name words state = by (served_by name state.shows.serves)
     where
-      answers : (answer : Answer) → by_told state (record { shows = state.shows; store = state.store; act = alias_answer answer }) ≡ meant_by (Some (λ _. answer)) (run_in room) called name words state
+      answers : (answer : Answer) → by_told state (record { shows = state.shows; store = state.store; act = alias_answer answer }) ≡ meant_by update_meaning (Some (λ _. answer)) (run_in room) called name words state
       answers (Ok text) = refl
       answers (Err text) = refl
 
       by : (served : Option Meaning)
-          → by_told state (called_as (option_map (λ meaning. alias_answer (meaning words)) served) (name ∷ words) state.shows state.store) ≡ meant_by served (run_in room) called name words state
+          → by_told state (called_as (option_map (λ meaning. alias_answer (meaning words)) served) (name ∷ words) state.shows state.store) ≡ meant_by update_meaning served (run_in room) called name words state
       by (Some meaning) = answers (meaning words)
       by None =
           let came : Done = panel_command (name ∷ words) state.shows.panel state.store in
           outcome_goes came.outcome came.panel came.store state (command_moment (name ∷ words) state.shows.panel state.store)
 
-pub scripts_run : (room : ℕ) → scripts_in room ≡ run_in room
+pub scripts_run : (room : ℕ) → scripts_in update_meaning room ≡ run_in room
 unfolding scripts_in
 scripts_run room =
-    sym (scripts_agree (outside_meaning outside) command_meaning (λ room called name words state. command_called room called name words state) room)
+    sym (scripts_agree (outside_meaning outside) (command_meaning update_meaning) (λ room called name words state. command_called room called name words state) room)

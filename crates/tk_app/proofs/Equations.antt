@@ -28,14 +28,14 @@ use Rattle.tk_panel.specs.Destroy.{Doomed, destroy_chosen, destroys, doomed_by, 
 use Rattle.tk_panel.specs.Next.{next}
 use Rattle.tk_panel.specs.Panel.{Panel}
 use Rattle.tk_panel.specs.Reports.{with_line}
-use Rattle.tk_panel.specs.Settle.{Next, after_layout, at_home, drained, idle_round, is_closed, is_due, on_event, on_round, on_timer as timer_next, or_later, queue_or_round, still_waiting, tasks_round, turn, with_queue}
+use Rattle.tk_panel.specs.Settle.{Next, after_layout, at_home, drained, idle_round, is_closed, is_due, on_event, on_round, on_timer, or_later, queue_or_round, still_waiting, tasks_round, turn, with_queue}
 use Rattle.tk_panel.specs.Start.{without_event}
 use Rattle.tk_panel.proofs.Choices.{chosen_queue}
 use Rattle.tk_commands.specs.Course.{bound_ended, destroying, event_job, settling as settling_to, with_end}
 use Rattle.tk_commands.proofs.Drained.{LeavesTimers, drained_leaves, drained_out, layout_leaves, then}
 use Rattle.tk_app.specs.Destroy.{destroy_dispatched, destroy_meaning, windows_destroyed}
 use Rattle.tk_app.specs.Dispatch.{Continuation, after_bound, global_meaning, bound_meaning, dispatch_meaning, with_panel_but_moment, with_whole_panel}
-use Rattle.tk_app.specs.Items.{waiting_meaning, waiting_taken, idle_meaning, idle_tasks_meaning, item_meaning, laid, on_idle, on_layout, on_queue, on_timer, round_meaning, settle_item}
+use Rattle.tk_app.specs.Items.{waiting_meaning, waiting_taken, idle_meaning, idle_tasks_meaning, item_meaning, with_layout, round_or, layout_or, queued_or, timer_or, round_meaning, settle_item}
 use Rattle.tk_app.specs.Jobs.{goes_on, meaning, on_next, starts}
 use Rattle.tk_app.specs.Outside.{run_in}
 use Rattle.tk_app.specs.Seen.{Seen}
@@ -222,7 +222,7 @@ module _ (room : ℕ) where
             ∙ step_same state (starts room (without_event (Rounds (id ∷ ids) home))) (waiting_meaning (run_in room) id entry.script (round_meaning (run_in room) ids again))
             (λ left. rw is (entry_starts id entry.script (Rounds ids home) (round_meaning (run_in room) ids again) others (record state { steps = left })))
 
-    idle_item : (ids : List ℕ) (state : State Seen) → idle_ids state.shows.panel.timers.entries ≡ ids → comes state (on_round home ids state.shows.panel) ≡ on_idle (run_in room) ids again state
+    idle_item : (ids : List ℕ) (state : State Seen) → idle_ids state.shows.panel.timers.entries ≡ ids → comes state (on_round home ids state.shows.panel) ≡ round_or (run_in room) ids again state
     unfolding still_waiting
     idle_item [] state is = refl
     idle_item (id ∷ ids) state is =
@@ -241,7 +241,7 @@ module _ (room : ℕ) where
   module _ (home : Home) (Open : Panel → Type 0) (takes_turns : (store : Store) (panel : Panel) → Open panel → at_home home store panel ≡ turn home store panel)
       (stays : (old new : Panel) → is_closed new ≡ is_closed old → Open old → Open new) where
     abbrev otherwise : Store → Panel → Next
-    otherwise store = timer_next home (after_layout home store)
+    otherwise store = on_timer home (after_layout home store)
 
     turned : (state : State Seen) → Open state.shows.panel → again home state ≡ comes state (turn home state.store state.shows.panel)
     unfolding still_waiting
@@ -269,7 +269,7 @@ module _ (room : ℕ) where
 
     layout_item : (changes : List PlaceChange) (state : State Seen) → changes_due state.shows.panel.windowing state.store ≡ changes → state.shows.panel.queue ≡ []
         → is_due state.shows.panel.moment state.shows.panel.timers.entries ≡ false → IsSound state.shows.panel.windowing.tree → Open state.shows.panel
-        → comes state (after_layout home state.store state.shows.panel) ≡ on_layout (run_in room) changes (again home) state
+        → comes state (after_layout home state.store state.shows.panel) ≡ layout_or (run_in room) changes (again home) state
     unfolding turn queue_or_round
     layout_item [] state is none early sound held =
         let panel : Panel = state.shows.panel in
@@ -291,14 +291,14 @@ module _ (room : ℕ) where
 
     timer_item : (first : Option WaitingScript) (state : State Seen) → first_due state.shows.panel.moment state.shows.panel.timers.entries ≡ first → state.shows.panel.queue ≡ []
         → IsSound state.shows.panel.windowing.tree → Open state.shows.panel
-        → comes state (otherwise state.store state.shows.panel) ≡ on_timer (run_in room) first (again home) state
+        → comes state (otherwise state.store state.shows.panel) ≡ timer_or (run_in room) first (again home) state
     timer_item first state is none sound held = by (is_due state.shows.panel.moment state.shows.panel.timers.entries) refl first is
       where
         panel : Panel
         panel = state.shows.panel
 
         by : (due : Bool) → is_due state.shows.panel.moment state.shows.panel.timers.entries ≡ due → (first : Option WaitingScript) → first_due state.shows.panel.moment state.shows.panel.timers.entries ≡ first
-            → comes state (cond due (state.shows.panel, Some (without_event (Rounds [] home))) (after_layout home state.store state.shows.panel)) ≡ on_timer (run_in room) first (again home) state
+            → comes state (cond due (state.shows.panel, Some (without_event (Rounds [] home))) (after_layout home state.store state.shows.panel)) ≡ timer_or (run_in room) first (again home) state
         by true due None is = absurd (some_due state.shows.panel.moment state.shows.panel.timers.entries due is)
         by true due (Some entry) is =
             step_same state (starts room (without_event (Rounds [] home))) (waiting_meaning (run_in room) entry.id entry.script (again home))
@@ -307,7 +307,7 @@ module _ (room : ℕ) where
         by false due (Some entry) is = let wrong : None ≡ Some entry = sym (none_due state.shows.panel.moment state.shows.panel.timers.entries due) ∙ is in absurd (cc)
 
     items : (queue : List Event) (state : State Seen) → state.shows.panel.queue ≡ queue → IsSound state.shows.panel.windowing.tree → Open state.shows.panel
-        → comes state (turn home state.store state.shows.panel) ≡ on_queue (run_in room) queue (again home) state
+        → comes state (turn home state.store state.shows.panel) ≡ queued_or (run_in room) queue (again home) state
     unfolding turn drained
     items [] state none sound held =
         ap (λ queue. (let found : Panel × List (List ℕ) = drained queue state.shows.panel in comes state (on_event home (otherwise state.store) found.0 found.1))) none
@@ -325,7 +325,7 @@ module _ (room : ℕ) where
   updated : (state : State Seen) → IsSound state.shows.panel.windowing.tree → again Update state ≡ item_meaning (run_in room) (again Update) state
   updated state sound = item Update AnyPanel (λ store panel held. refl) (λ old new same held. tt) state sound tt
 
-  last_layout : (state : State Seen) → again LastLayout state ≡ laid state
+  last_layout : (state : State Seen) → again LastLayout state ≡ with_layout state
   unfolding still_waiting
   last_layout state = goes (without_event (Rounds [] LastLayout)) state
 
@@ -343,15 +343,15 @@ module _ (room : ℕ) where
           (λ left code text. round_meaning (run_in room) ids g (with_whole_panel (with_end (out_of_global code) text left.shows.panel) left))
           (λ left code text. rest (with_whole_panel (with_end (out_of_global code) text left.shows.panel) left)))
 
-  updated_idle : (state : State Seen) → again IdleTasks state ≡ (let first : Panel = laid_out state.store state.shows.panel in round_meaning (run_in room) (idle_ids first.timers.entries) laid (with_whole_panel first state))
+  updated_idle : (state : State Seen) → again IdleTasks state ≡ (let first : Panel = laid_out state.store state.shows.panel in round_meaning (run_in room) (idle_ids first.timers.entries) with_layout (with_whole_panel first state))
   unfolding still_waiting
   updated_idle state =
       let first : Panel = laid_out state.store state.shows.panel in
       goes (without_event (Rounds [] IdleTasks)) state ∙ by (idle_ids first.timers.entries) (with_whole_panel first state) refl
     where
-      by : (ids : List ℕ) (state : State Seen) → idle_ids state.shows.panel.timers.entries ≡ ids → comes state (tasks_round state.store ids state.shows.panel) ≡ round_meaning (run_in room) ids laid state
+      by : (ids : List ℕ) (state : State Seen) → idle_ids state.shows.panel.timers.entries ≡ ids → comes state (tasks_round state.store ids state.shows.panel) ≡ round_meaning (run_in room) ids with_layout state
       by [] state is = refl
-      by (id ∷ ids) state is = idle_item LastLayout (id ∷ ids) state is ∙ round_same (id ∷ ids) (again LastLayout) laid last_layout state
+      by (id ∷ ids) state is = idle_item LastLayout (id ∷ ids) state is ∙ round_same (id ∷ ids) (again LastLayout) with_layout last_layout state
 
 -- ── as the interpreter runs scripts ──
 

@@ -10,7 +10,7 @@ use Rattle.tcl_interp.specs.Evaluation.{State, Outcome, Ended, OutOfSteps, and_t
 use Rattle.tcl_interp.specs.Scripts.{out_of_global}
 use Rattle.tcl_interp.proofs.Kept.{Kept}
 use Rattle.tk_base.proofs.Orders.{found_there}
-use Rattle.tk_base.specs.Bag.{AllBelow, IsRising, changed_at, numbered}
+use Rattle.tk_base.specs.Numbered.{AllBelow, IsRising, changed_at, numbered}
 use Rattle.tk_sequences.specs.declared.event.Event.{Event}
 use Rattle.tk_tree.specs.Change.{dying}
 use Rattle.tk_tree.specs.declared.window.Window.{Window}
@@ -24,12 +24,13 @@ use Rattle.tk_panel.specs.Destroy.{all_dying, destroy_event, doomed_by, marked, 
 use Rattle.tk_panel.specs.Panel.{Panel}
 use Rattle.tk_panel.specs.Reports.{with_line}
 use Rattle.tk_app.specs.Destroy.{destroy_dispatched, destroy_meaning, windows_destroyed}
-use Rattle.tk_app.specs.Dispatch.{Continuation, Run, after_bound, global_meaning, bound_meaning, with_whole_panel}
+use Rattle.tk_app.specs.Commands.{scripts_in}
+use Rattle.tk_app.specs.Dispatch.{Continuation, after_bound, global_meaning, bound_meaning, with_whole_panel}
 use Rattle.tk_app.specs.Gone.{AreGone, DestroysAll, LeavesNone}
 use Rattle.tk_app.specs.Outside.{run_in}
 use Rattle.tk_app.specs.Seen.{Seen}
 use Rattle.tk_app.specs.Settle.{IsSoundIn}
-use Rattle.tk_app.proofs.Commands.{scripts_run}
+use Rattle.tk_app.proofs.ByUpdate.{destroy_same, scripts_same}
 use Rattle.tk_app.proofs.Grows.{Grows, LivesIn, StaysAndGrows, Was, found_given, found_number, grow_acts, none_left}
 use Rattle.tk_app.proofs.Panels.{chosen_screen}
 use Rattle.tk_app.proofs.PostOrder.{Among, Member, Ordered, is_child, post_ordered, pushed}
@@ -377,5 +378,5 @@ destroys_run room path state sound = by_path (at_path path state.shows.panel.win
     by_path (Some window) is = by_dying window.number window (member_found window tree sound (found_member (λ (w : Window). bytes_eq path w.path) tree.windows window is)) window.dying
 
 pub destroys_all : DestroysAll
-destroys_all room path state sound =
-    subst (λ (run : Run). LeavesNone (doomed_by path state.shows.panel) (destroy_meaning run (path ∷ []) state)) (sym (scripts_run room)) (destroys_run room path state sound)
+destroys_all update meets room path state sound =
+    subst (LeavesNone (doomed_by path state.shows.panel)) (destroy_same room (scripts_in update room) (scripts_same update meets room) (path ∷ []) state sound) (destroys_run room path state sound)

@@ -5,9 +5,9 @@ use Rattle.std.specs.Option.{option_map, option_and_then, option_or}
 use Rattle.std.specs.Str.{bytes_eq}
 use Rattle.std.proofs.lemmas.Bool.{eqb-true, leb-false, leb-true}
 use Rattle.std.proofs.lemmas.List.Folds.{find-append}
-use Rattle.tk_base.specs.Bag.{numbered}
+use Rattle.tk_base.specs.Numbered.{numbered}
 use Rattle.tk_base.specs.declared.kind.Kind.{Kind}
-use Rattle.tk_tree.specs.Create.{below_refusal, child_refusal, first_of_two, parent_number, place_refusal, refusal, taken_refusal, with_window}
+use Rattle.tk_tree.specs.Create.{below_refusal, child_refusal, parent_number, place_refusal, refusal, taken_refusal, with_window}
 use Rattle.tk_tree.specs.declared.fault.WindowFault.{WindowFault}
 use Rattle.tk_tree.specs.declared.fault.WindowFault.TheVariants.{BadName, Dying}
 use Rattle.tk_tree.specs.declared.window.Window.{Window}
@@ -183,7 +183,7 @@ module _ (path : List ℕ) (kind : Kind) (tree : Tree) (sound : IsSound tree) (n
       by None none = inr (last (tree.next_number == n) (sym (find-append (λ w. w.number == n) tree.windows (fresh ∷ []) ∙ ap (λ (o : Option Window). option_or o (cond (tree.next_number == n) (Some fresh) None)) none) ∙ is))
       by (Some window) some = inl (some ∙ (sym (find-append (λ w. w.number == n) tree.windows (fresh ∷ []) ∙ ap (λ (o : Option Window). option_or o (cond (tree.next_number == n) (Some fresh) None)) some) ∙ is))
 
-  no_place : (one other : Option WindowFault) → first_of_two one other ≡ None → one ≡ None
+  no_place : (one other : Option WindowFault) → option_or one other ≡ None → one ≡ None
   no_place None other is = refl
   no_place (Some fault) other is = absurd (cc)
 

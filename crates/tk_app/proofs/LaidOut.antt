@@ -27,8 +27,8 @@ use Rattle.tk_commands.specs.Rests.{is_empty, rest_settles, settles_last}
 use Rattle.tk_app.specs.Commands.{scripts_in}
 use Rattle.tk_app.specs.Outside.{calls, course}
 use Rattle.tk_app.specs.Seen.{Seen}
-use Rattle.tk_app.specs.Items.{on_idle, on_layout, on_queue, on_timer as timer_item}
-use Rattle.tk_app.specs.SettleJob.{EndsLaidOut, SettlesTwice, settle_meaning, settling}
+use Rattle.tk_app.specs.Items.{round_or, layout_or, queued_or, timer_or}
+use Rattle.tk_app.specs.SettleJob.{EndsLaidOut, SettlesTwice, settle_meaning, settling, update_meaning}
 use Rattle.tk_app.proofs.ByEquations.{settles_all}
 use Rattle.tk_app.proofs.Equations.{none_due}
 use Rattle.tk_app.proofs.Homes.{keeps}
@@ -147,8 +147,8 @@ settles_twice state after code text is sound = by (is_closed after.shows.panel) 
         let left : empty && (early && idle) ≡ true = rw held at quiet in
         settles_all after sound
         ∙ rw held refl
-        ∙ ap (λ queue. on_queue (scripts_in 200) queue settle_meaning after) (no_more panel.queue (one_so empty (early && idle) left))
-        ∙ ap (λ first. timer_item (scripts_in 200) first settle_meaning after)
+        ∙ ap (λ queue. queued_or (scripts_in update_meaning 200) queue settle_meaning after) (no_more panel.queue (one_so empty (early && idle) left))
+        ∙ ap (λ first. timer_or (scripts_in update_meaning 200) first settle_meaning after)
         (none_due panel.moment panel.timers.entries (not_so (is_due panel.moment panel.timers.entries) (one_so early idle (other_so empty (early && idle) left))))
-        ∙ ap (λ changes. on_layout (scripts_in 200) changes settle_meaning after) (ends_laid_out state after code text is sound held)
-        ∙ ap (λ ids. on_idle (scripts_in 200) ids settle_meaning after) (no_more (idle_ids panel.timers.entries) (other_so early idle (other_so empty (early && idle) left)))
+        ∙ ap (λ changes. layout_or (scripts_in update_meaning 200) changes settle_meaning after) (ends_laid_out state after code text is sound held)
+        ∙ ap (λ ids. round_or (scripts_in update_meaning 200) ids settle_meaning after) (no_more (idle_ids panel.timers.entries) (other_so early idle (other_so empty (early && idle) left)))

@@ -2,7 +2,7 @@
 use Rattle.std.proofs.Common.{◌≡◌, ℕ, suc, ◌<◌, ◌≤◌, true, false, List, [], ◌∷◌, length, Option, Some, None, refl, sym, ap, ◌∙◌, subst}
 use Rattle.std.specs.Prelude.{is_none, map, option_map}
 use Rattle.tcl_vars.specs.Store.{Store}
-use Rattle.tk_base.specs.Bag.{AllAbove, AllBelow, IsRising}
+use Rattle.tk_base.specs.Numbered.{AllAbove, AllBelow, IsRising}
 use Rattle.tk_packer.specs.declared.changes.PlaceChange.{PlaceChange}
 use Rattle.tk_packer.specs.declared.changes.PlaceChange.TheVariants.{Unmap, Configure, Map}
 use Rattle.tk_tree.specs.Own.{HasOlderParent, HaveOlderParents, IsSound, Tree, at_path, most_windows, window_at}

@@ -2,9 +2,11 @@
 mod Adding
 mod Alone
 mod Beginnings
+mod Behind
 mod Begun
 mod ByEquations
 pub mod BySettle
+mod ByUpdate
 mod CommandMoments
 mod CommandTrees
 mod Commands

@@ -13,9 +13,9 @@ use Rattle.tk_app.specs.Outside.{calls, course, outside}
 use Rattle.tk_app.specs.Moments.{after_outcome, settled_as, settled_by, started_by, state_at}
 use Rattle.tk_app.specs.Part.{Rests, BeginsWithScript, SettlesFromRest, done_as, settling_as, stage_done}
 use Rattle.tk_app.specs.Seen.{Meaning, Seen}
-use Rattle.tk_app.specs.Dispatch.{Run, global_meaning}
+use Rattle.tk_app.specs.Dispatch.{RunsScripts, global_meaning}
 use Rattle.tk_app.specs.Settle.{after_script, start_meaning}
-use Rattle.tk_app.specs.SettleJob.{settle_meaning, settling}
+use Rattle.tk_app.specs.SettleJob.{settle_meaning, settling, update_meaning}
 use Rattle.tk_app.proofs.Commands.{scripts_run}
 
 -- nothing comes behind the end
@@ -29,11 +29,11 @@ unfolding settle_meaning
 settles state = (jobs.goes_on course calls 200 settling state Normal [] []).0
 
 -- the task of an application's own script comes to the script and what settling is
-pub starts : (script : List ℕ) (state : State Seen) → task_meaning outside (script_meaning outside 200) (task.Begins script settling) state Normal [] ≡ start_meaning settle_meaning script state
+pub starts : (script : List ℕ) (state : State Seen) → task_meaning outside (script_meaning outside 200) (task.Begins script settling) state Normal [] ≡ start_meaning update_meaning settle_meaning script state
 unfolding settle_meaning
 starts script state =
     (jobs.goes_on course calls 200 settling state Normal [] script).1
-    ∙ ap (λ (run : Run). and_then (global_meaning run script state) (after_script settle_meaning)) (sym (scripts_run 200))
+    ∙ ap (λ (run : RunsScripts). and_then (global_meaning run script state) (after_script settle_meaning)) (sym (scripts_run 200))
 
 module _ {M : Type 0} (answer : M → Meaning) where
   from_rest : (s : AppState) (moment : ℕ) (application : Application M) → application.state ≡ s

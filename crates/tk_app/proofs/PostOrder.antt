@@ -3,7 +3,7 @@ use Rattle.std.proofs.Common.{◌≡◌, ◌⊎◌, inl, inr, ℕ, ◌<◌, Bool
 use Rattle.std.specs.Prelude.{◌==◌}
 use Rattle.std.specs.Option.{option_map_or}
 use Rattle.std.proofs.lemmas.Bool.{eqb-true, eq-eqb}
-use Rattle.tk_base.specs.Bag.{AllAbove, IsRising}
+use Rattle.tk_base.specs.Numbered.{AllAbove, IsRising}
 use Rattle.tk_tree.specs.declared.window.Window.{Window}
 use Rattle.tk_tree.specs.Orders.{below_first}
 use Rattle.tk_tree.specs.Own.{HasOlderParent, HaveOlderParents, is_child_of}

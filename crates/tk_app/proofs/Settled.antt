@@ -40,7 +40,7 @@ use Rattle.tk_app.specs.Commands.{scripts_in}
 use Rattle.tk_app.specs.Dispatch.{global_meaning, with_panel_but_moment}
 use Rattle.tk_app.specs.Jobs.{comes_next}
 use Rattle.tk_app.specs.Settle.{after_script, start_meaning}
-use Rattle.tk_app.specs.SettleJob.{settle_meaning, settling}
+use Rattle.tk_app.specs.SettleJob.{settle_meaning, settling, update_meaning}
 use Rattle.tk_app.proofs.Homes.{keeps, look_stays, looked_last}
 use Rattle.tk_app.proofs.Nexts.{goes_by_next}
 use Rattle.tk_app.proofs.Parts.{settles, starts}
@@ -71,7 +71,7 @@ settle_stays state =
     subst (λ o. EndsWith moment_of (moment_of state.shows) o) (settles state)
     (task_leaves moment_of outside leaves (moment_of state.shows) 200 (task.Runs settling) state Normal [] refl)
 
-start_stays : (script : List ℕ) (state : State Seen) → EndsWith moment_of (moment_of state.shows) (start_meaning settle_meaning script state)
+start_stays : (script : List ℕ) (state : State Seen) → EndsWith moment_of (moment_of state.shows) (start_meaning update_meaning settle_meaning script state)
 start_stays script state =
     subst (λ o. EndsWith moment_of (moment_of state.shows) o) (starts script state)
     (task_leaves moment_of outside leaves (moment_of state.shows) 200 (task.Begins script settling) state Normal [] refl)
@@ -101,8 +101,8 @@ quiet_settle state = by (settle_meaning state) refl
     by (Ended after code text) is = quiet_last code text after (ends_looked course calls 200 settles_last keeps settling state after code text refl is)
     by (OutOfSteps after) is = tt
 
-quiet_start : (script : List ℕ) (state : State Seen) → Quiet (start_meaning settle_meaning script state)
-quiet_start script state = by (global_meaning (scripts_in 200) script state)
+quiet_start : (script : List ℕ) (state : State Seen) → Quiet (start_meaning update_meaning settle_meaning script state)
+quiet_start script state = by (global_meaning (scripts_in update_meaning 200) script state)
   where
     by : (o : Outcome Seen) → Quiet (and_then o (after_script settle_meaning))
     by (Ended left code text) = quiet_settle (with_panel_but_moment (with_end (out_of_global code) text left.shows.panel) left)
@@ -202,4 +202,4 @@ module _ {M : Type 0} (answer : M → Meaning) where
   pub started_is_past : StartedIsPast answer
   unfolding started_by
   started_is_past moment script application =
-      let state : State Seen = state_at answer moment application in past_outcome moment (start_meaning settle_meaning script state) application (start_stays script state) (quiet_start script state)
+      let state : State Seen = state_at answer moment application in past_outcome moment (start_meaning update_meaning settle_meaning script state) application (start_stays script state) (quiet_start script state)

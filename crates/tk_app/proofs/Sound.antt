@@ -1,7 +1,7 @@
 -- Windows stay numbered as they were made, whatever an application does.
 use Rattle.std.proofs.Common.{◌≡◌, ℕ, suc, ◌<◌, ◌≤◌, Bool, true, false, cond, List, [], ◌∷◌, length, Option, Some, None, MatchOption, refl, sym, ap, ◌∙◌, subst, arith}
 use Rattle.std.specs.Prelude.{◌==◌, ◌||◌, not, filter, is_some, map, nat_le}
-use Rattle.std.specs.Option.{option_map, option_and_then}
+use Rattle.std.specs.Option.{option_map, option_and_then, option_or}
 use Rattle.std.specs.Str.{bytes_eq}
 use Rattle.std.proofs.lemmas.Bool.{leb-false}
 use Rattle.std.proofs.lemmas.List.{length-append}
@@ -12,9 +12,9 @@ use Rattle.tcl_interp.specs.declared.job.Task.{Task}
 use Rattle.tcl_interp.specs.declared.job.Task.TheVariants.{Begins, Waits, Runs, Invoked}
 use Rattle.tcl_interp.specs.declared.tasks.Act.{Act}
 use Rattle.tcl_interp.specs.Evaluation.{State, Outcome, Ended, OutOfSteps}
-use Rattle.tcl_interp.proofs.Kept.{Keeps, Kept, kept_run_at, kept_script, kept_task}
+use Rattle.tcl_interp.proofs.Kept.{Keeps, Kept, KeepsRun, kept_run_at, kept_script, kept_task}
 use Rattle.tcl_interp.proofs.Unrolled as jobs
-use Rattle.tk_base.specs.Bag.{AllAbove, AllBelow, IsRising}
+use Rattle.tk_base.specs.Numbered.{AllAbove, AllBelow, IsRising}
 use Rattle.tk_panel.specs.declared.job.Job.{Job}
 use Rattle.tk_panel.specs.declared.job.Rest.{Rest}
 use Rattle.tk_panel.specs.Choice.{chosen}
@@ -29,7 +29,7 @@ use Rattle.tk_commands.specs.declared.outcome.Begun.TheVariants.{Updates, Update
 use Rattle.tk_commands.specs.declared.outcome.CommandOutcome.{CommandOutcome}
 use Rattle.tk_commands.specs.declared.outcome.CommandOutcome.TheVariants as outcome
 use Rattle.tk_commands.specs.Outcomes.{Done}
-use Rattle.tk_tree.specs.Create.{first_of_two, parent_number, place_refusal, refusal, taken_refusal}
+use Rattle.tk_tree.specs.Create.{parent_number, place_refusal, refusal, taken_refusal}
 use Rattle.tk_tree.specs.declared.fault.WindowFault.{WindowFault}
 use Rattle.tk_tree.specs.declared.fault.WindowFault.TheVariants.{Exists, Full}
 use Rattle.tk_tree.specs.declared.window.Window.{Window}
@@ -222,7 +222,7 @@ module _ (path : List ℕ) (tree : Tree) (sound : IsSound tree) where
   parent_older = names_older (parent_and_name path)
 
 -- there is room for one more where none of the tests refuses
-no_first : (one other : Option WindowFault) → first_of_two one other ≡ None → other ≡ None
+no_first : (one other : Option WindowFault) → option_or one other ≡ None → other ≡ None
 no_first None other is = is
 no_first (Some fault) other is = absurd (cc)
 
@@ -270,6 +270,19 @@ sound_acts = record {
 }
 
 -- ── the law ──
+
+-- the windows that are shown are numbered so
+abbrev pub IsSoundShown : Seen → Type 0
+IsSoundShown seen = IsSound seen.panel.windowing.tree
+
+pub shown_keeps : Keeps IsSoundShown outside
+shown_keeps = (
+  λ seen store words sound. call_since StaysSound sound_acts seen.panel.windowing.tree seen store words (λ same. same) sound,
+  λ seen store task code text sound. task_since StaysSound sound_acts seen.panel.windowing.tree seen store task code text (λ same. same) sound,
+)
+
+pub run_keeps : (room : ℕ) → KeepsRun IsSoundShown (run_in room)
+run_keeps room = kept_script IsSoundShown outside shown_keeps room
 
 ends_sound : (first : Tree) (outcome : Outcome Seen) → IsSound first → Kept (Since StaysSound sound_acts first) outcome → EndsSound outcome
 ends_sound first (Ended state code text) sound kept = kept sound

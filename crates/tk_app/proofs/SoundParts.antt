@@ -22,9 +22,10 @@ use Rattle.tk_app.specs.Moments.{after_outcome, delivered, delivered_as, settled
 use Rattle.tk_app.specs.MomentsByJob.{settled, started}
 use Rattle.tk_app.specs.Seen.{Meaning, Seen}
 use Rattle.tk_app.specs.Settle.{IsSoundIn, after_script, start_meaning}
-use Rattle.tk_app.specs.SettleJob.{settle_meaning, settling}
+use Rattle.tk_app.specs.SettleJob.{settle_meaning, settling, update_meaning}
 use Rattle.tk_app.specs.Sound.{EndsSound, RunsSound, StaysSound}
-use Rattle.tk_app.proofs.ByEquations.{keeps_sound}
+use Rattle.tk_app.proofs.ByEquations.{updates}
+use Rattle.tk_app.proofs.ByUpdate.{keeps_sound}
 use Rattle.tk_app.proofs.Trees.{end_screen}
 
 -- what comes behind something that ends so, where it ends so in each such state
@@ -33,10 +34,10 @@ then_sound : (o : Outcome Seen) (f : State Seen → Code → List ℕ → Outcom
 then_sound (Ended state code text) f kept rest = rest state code text kept
 then_sound (OutOfSteps state) f kept rest = tt
 
-start_sound : (script : List ℕ) (state : State Seen) → IsSoundIn state → EndsSound (start_meaning settle_meaning script state)
+start_sound : (script : List ℕ) (state : State Seen) → IsSoundIn state → EndsSound (start_meaning update_meaning settle_meaning script state)
 unfolding settle_meaning
 start_sound script state sound =
-    then_sound (global_meaning (scripts_in 200) script state) (after_script settle_meaning) ((keeps_sound 200 state sound).0 script)
+    then_sound (global_meaning (scripts_in update_meaning 200) script state) (after_script settle_meaning) ((keeps_sound 200 state sound).0 update_meaning updates script)
     (λ left code text kept.
     (keeps_sound 200 (with_panel_but_moment (with_end (out_of_global code) text left.shows.panel) left)
     (subst (λ (windowing : Windowing). IsSound windowing.tree) (sym (end_screen (out_of_global code) text left.shows.panel)) kept)).1 settling)
@@ -67,7 +68,7 @@ module _ {M : Type 0} (answer : M → Meaning) where
   started_sound : (moment : ℕ) (script : List ℕ) (application : Application M) → IsSound application.windowing.tree → RunsSound (started answer moment script application)
   unfolding started_by
   started_sound moment script application sound =
-      outcome_sound (start_meaning settle_meaning script (state_at answer moment application)) application (start_sound script (state_at answer moment application) sound)
+      outcome_sound (start_meaning update_meaning settle_meaning script (state_at answer moment application)) application (start_sound script (state_at answer moment application) sound)
 
   settled_sound : (moment : ℕ) (application : Application M) → RunsSound application → RunsSound (settled answer moment application)
   unfolding settle_meaning settled_by

@@ -23,7 +23,7 @@ pub record Application (M : Type 0) : Type 0 where
   pub aliases : List (List ℕ × M)
   pub store : Store
   pub commands : NamedCommands
-  -- what it has in the tables: its windows, their widgets, what is packed, its rectangle and its title
+  -- its windows, their widgets, what is packed, its rectangle and its title
   pub windowing : Windowing
   -- its bindings and virtual events, in the order of registration
   pub bindings : List Binding
@@ -41,7 +41,7 @@ pub record Application (M : Type 0) : Type 0 where
   pub state : AppState
 
 module _ {M : Type 0} where
-  -- what it has in the tables, at a moment
+  -- what its scripts see and change beside variables, at a moment
   abbrev pub panel_at : ℕ → Application M → Panel
   panel_at moment application = record {
     moment = moment;
@@ -55,7 +55,7 @@ module _ {M : Type 0} where
     transcript = application.transcript;
   }
 
-  -- the application with other things in the tables; the moment isn't its own
+  -- the application with another panel; the moment isn't its own
   abbrev pub with_panel : Panel → Application M → Application M
   with_panel panel application = record application {
     windowing = panel.windowing;

@@ -21,43 +21,44 @@ use Rattle.tk_commands.specs.Commands.{command_named, panel_command}
 use Rattle.tk_commands.specs.declared.commands.TkCommand.TheVariants.{Class}
 use Rattle.tk_commands.specs.declared.outcome.CommandOutcome.TheVariants.{Acts}
 use Rattle.tk_commands.specs.Outcomes.{done}
-use Rattle.tk_app.specs.Commands.{command_meaning, ends_there, scripts_in, update_meaning}
+use Rattle.tk_app.specs.Commands.{Update, command_meaning, ends_there, scripts_in}
 use Rattle.tk_app.specs.Destroy.{destroy_meaning}
 use Rattle.tk_app.specs.Dispatch.{Continuation, global_meaning, dispatch_meaning, with_whole_panel}
 use Rattle.tk_app.specs.Items.{idle_tasks_meaning, item_meaning}
 use Rattle.tk_app.specs.Seen.{Seen, served_by}
-use Rattle.tk_app.specs.Settle.{IsSoundIn}
+use Rattle.tk_app.specs.Settle.{IsSoundIn, IsUpdate}
 
 abbrev pub IsNoAlias : List ℕ → State Seen → Type 0
 IsNoAlias name state = served_by name state.shows.serves ≡ None
 
--- `update` is *Settle* without the test for the main window
+-- `update` is what it is taken for: by its equation it is *Settle* without the test for the main window
 abbrev pub UpdateBegins : Type 0
-UpdateBegins = (room : ℕ) (called : List ℕ) (state : State Seen) → IsNoAlias (codes "update") state
-    → command_meaning (scripts_in room) called (codes "update") [] state ≡ update_meaning (scripts_in room) state
+UpdateBegins = (update : Update) (room : ℕ) (called : List ℕ) (state : State Seen) → IsNoAlias (codes "update") state
+    → command_meaning update (scripts_in update room) called (codes "update") [] state ≡ update (scripts_in update room) state
 
--- So it is whatever meets that equation: the first item that exists, and that again.
+-- So it is whatever meets that equation in its room: the first item that exists, and that again.
 abbrev pub UpdateIs : Type 0
-UpdateIs = (room : ℕ) (update : Continuation) → ((state : State Seen) → IsSoundIn state → update state ≡ item_meaning (scripts_in room) update state)
+UpdateIs = (update : Update) → IsUpdate update → (room : ℕ) (other : Continuation)
+    → ((state : State Seen) → IsSoundIn state → other state ≡ item_meaning (scripts_in update room) other state)
     → (called : List ℕ) (state : State Seen) → IsNoAlias (codes "update") state → IsSoundIn state
-    → command_meaning (scripts_in room) called (codes "update") [] state ≡ update state
+    → command_meaning update (scripts_in update room) called (codes "update") [] state ≡ other state
 
 -- `update idletasks` is a layout, a round of the idle scripts that wait then, and a layout.
 abbrev pub IdleTasksAre : Type 0
-IdleTasksAre = (room : ℕ) (called : List ℕ) (state : State Seen) → IsNoAlias (codes "update") state
-    → command_meaning (scripts_in room) called (codes "update") (codes "idletasks" ∷ []) state ≡ idle_tasks_meaning (scripts_in room) state
+IdleTasksAre = (update : Update) (room : ℕ) (called : List ℕ) (state : State Seen) → IsNoAlias (codes "update") state
+    → command_meaning update (scripts_in update room) called (codes "update") (codes "idletasks" ∷ []) state ≡ idle_tasks_meaning (scripts_in update room) state
 
 -- `destroy` is *Destroy* of its paths
 abbrev pub DestroyBegins : Type 0
-DestroyBegins = (room : ℕ) (called : List ℕ) (paths : List (List ℕ)) (state : State Seen) → IsNoAlias (codes "destroy") state
-    → command_meaning (scripts_in room) called (codes "destroy") paths state ≡ destroy_meaning (scripts_in room) paths state
+DestroyBegins = (update : Update) (room : ℕ) (called : List ℕ) (paths : List (List ℕ)) (state : State Seen) → IsNoAlias (codes "destroy") state
+    → command_meaning update (scripts_in update room) called (codes "destroy") paths state ≡ destroy_meaning (scripts_in update room) paths state
 
 -- `event generate` of an event that comes at once is *Dispatch* of it
 abbrev pub GenerateBegins : Type 0
-GenerateBegins = (room : ℕ) (called : List ℕ) (words : List (List ℕ)) (generated : Generated) (state : State Seen) → IsNoAlias (codes "event") state
+GenerateBegins = (update : Update) (room : ℕ) (called : List ℕ) (words : List (List ℕ)) (generated : Generated) (state : State Seen) → IsNoAlias (codes "event") state
     → (let panel : Panel = state.shows.panel in generate_words words panel.input.focus (length panel.queue) panel.moment panel.windowing.tree ≡ Ok generated)
     → generated.when ≡ Now
-    → command_meaning (scripts_in room) called (codes "event") (codes "generate" ∷ words) state ≡ dispatch_meaning (scripts_in room) generated.event ends_there state
+    → command_meaning update (scripts_in update room) called (codes "event") (codes "generate" ∷ words) state ≡ dispatch_meaning (scripts_in update room) generated.event ends_there state
 
 -- ── class commands, and widgets' own ──
 
@@ -68,18 +69,18 @@ shown_with panel store state = record (with_whole_panel panel state) { store = s
 -- A class command that makes another selection (`tk::ListboxDown`, `tk::ListboxDrag`, `tk::ListboxMove`, `tk::ListboxSpace`) is *Dispatch* of the event
 -- <<ListboxSelect>> of its listbox, where that is there still.
 abbrev pub SelectBegins : Type 0
-SelectBegins = (room : ℕ) (called name : List ℕ) (command : ClassCommand) (words : List (List ℕ)) (number : ℕ) (window : Window) (state : State Seen)
+SelectBegins = (update : Update) (room : ℕ) (called name : List ℕ) (command : ClassCommand) (words : List (List ℕ)) (number : ℕ) (window : Window) (state : State Seen)
     → IsNoAlias name state → begins_path name ≡ false → command_named name ≡ Some (Class command)
     → (let there : ClassDone = class_command command words state.shows.panel state.store in
     there.outcome ≡ Selects number → window_at number there.panel.windowing.tree ≡ Some window
-    → command_meaning (scripts_in room) called name words state
-    ≡ dispatch_meaning (scripts_in room) (bare_event (Virtual (codes "ListboxSelect")) window.number window.path state.shows.panel.moment) ends_there
+    → command_meaning update (scripts_in update room) called name words state
+    ≡ dispatch_meaning (scripts_in update room) (bare_event (Virtual (codes "ListboxSelect")) window.number window.path state.shows.panel.moment) ends_there
     (shown_with there.panel there.store state))
 
 -- A command that comes to a script (`invoke`, `tk::ButtonInvoke`, `tk::ButtonUp`) runs it at global level, and ends as it does.
 abbrev pub InvokeRuns : Type 0
-InvokeRuns = (room : ℕ) (called name : List ℕ) (words : List (List ℕ)) (script : List ℕ) (panel : Panel) (store : Store) (state : State Seen)
+InvokeRuns = (update : Update) (room : ℕ) (called name : List ℕ) (words : List (List ℕ)) (script : List ℕ) (panel : Panel) (store : Store) (state : State Seen)
     → IsNoAlias name state → panel_command (name ∷ words) state.shows.panel state.store ≡ done panel store (Acts (Script script))
     → panel.moment ≡ state.shows.panel.moment
-    → command_meaning (scripts_in room) called name words state
-    ≡ and_then (global_meaning (scripts_in room) script (shown_with panel store state)) (λ left code text. ends_global left (out_of_global code) text)
+    → command_meaning update (scripts_in update room) called name words state
+    ≡ and_then (global_meaning (scripts_in update room) script (shown_with panel store state)) (λ left code text. ends_global left (out_of_global code) text)

@@ -6,10 +6,10 @@ use Rattle.tcl_interp.specs.Evaluation.{Ended}
 use Rattle.tk_tree.specs.declared.window.Window.{Window}
 use Rattle.tk_tree.specs.Own.{window_at}
 use Rattle.tk_panel.specs.Removal.{destroy_event, doomed_by, marked, removed}
-use Rattle.tk_app.specs.Dispatch.{Continuation, Run, dispatch_meaning, with_whole_panel}
+use Rattle.tk_app.specs.Dispatch.{Continuation, RunsScripts, dispatch_meaning, with_whole_panel}
 
 -- How scripts are run is given.
-module _ (run : Run) where
+module _ (run : RunsScripts) where
   -- a window that is still there has its Destroy event dispatched
   abbrev pub destroy_dispatched : Option Window → Continuation → Continuation
   destroy_dispatched None behind state = behind state

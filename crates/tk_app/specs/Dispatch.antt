@@ -25,11 +25,11 @@ abbrev pub Continuation : Type 0
 Continuation = State Seen → Outcome Seen
 
 -- how a script is run
-abbrev pub Run : Type 0
-Run = List ℕ → State Seen → Outcome Seen
+abbrev pub RunsScripts : Type 0
+RunsScripts = List ℕ → State Seen → Outcome Seen
 
 -- How scripts are run is given.
-module _ (run : Run) where
+module _ (run : RunsScripts) where
   -- what a script comes to at global level: it sees the global frame alone, and the other levels are back behind it
   abbrev pub global_meaning : List ℕ → State Seen → Outcome Seen
   global_meaning script state = run_at run 1 script state

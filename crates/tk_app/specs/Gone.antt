@@ -3,10 +3,10 @@ use Rattle.std.specs.Prelude.{◌≡◌, ℕ, List, [], ◌∷◌, None}
 use Rattle.tcl_interp.specs.Evaluation.{State, Outcome, Ended, OutOfSteps}
 use Rattle.tk_panel.specs.Removal.{doomed_by}
 use Rattle.tk_tree.specs.Own.{Tree, window_at}
-use Rattle.tk_app.specs.Commands.{scripts_in}
+use Rattle.tk_app.specs.Commands.{Update, scripts_in}
 use Rattle.tk_app.specs.Destroy.{destroy_meaning}
 use Rattle.tk_app.specs.Seen.{Seen}
-use Rattle.tk_app.specs.Settle.{IsSoundIn}
+use Rattle.tk_app.specs.Settle.{IsSoundIn, IsUpdate}
 
 -- no window has one of these numbers
 abbrev pub AreGone : List ℕ → Tree → Type 0
@@ -20,4 +20,5 @@ LeavesNone numbers (OutOfSteps state) = Unit {0}
 
 -- The window that a path means, and all below it, are gone once *Destroy* of it has ended, whatever its scripts did.
 abbrev pub DestroysAll : Type 0
-DestroysAll = (room : ℕ) (path : List ℕ) (state : State Seen) → IsSoundIn state → LeavesNone (doomed_by path state.shows.panel) (destroy_meaning (scripts_in room) (path ∷ []) state)
+DestroysAll = (update : Update) → IsUpdate update → (room : ℕ) (path : List ℕ) (state : State Seen) → IsSoundIn state
+    → LeavesNone (doomed_by path state.shows.panel) (destroy_meaning (scripts_in update room) (path ∷ []) state)

@@ -12,18 +12,18 @@ use Rattle.tk_screen.specs.Layout.{changes_due}
 use Rattle.tk_panel.specs.Changes.{laid_out}
 use Rattle.tk_panel.specs.Panel.{Panel, is_closed, with_queue}
 use Rattle.tk_commands.specs.Ends.{with_end}
-use Rattle.tk_app.specs.Dispatch.{Continuation, Run, global_meaning, dispatch_meaning, with_whole_panel}
+use Rattle.tk_app.specs.Dispatch.{Continuation, RunsScripts, global_meaning, dispatch_meaning, with_whole_panel}
 
 -- a timer or an idle script leaves its table
 abbrev pub waiting_taken : ℕ → Panel → Panel
 waiting_taken id panel = record panel { timers = without id panel.timers }
 
 -- a layout, and the empty answer
-abbrev pub laid : Continuation
-laid state = Ended (with_whole_panel (laid_out state.store state.shows.panel) state) Normal []
+abbrev pub with_layout : Continuation
+with_layout state = Ended (with_whole_panel (laid_out state.store state.shows.panel) state) Normal []
 
 -- How scripts are run is given.
-module _ (run : Run) where
+module _ (run : RunsScripts) where
   -- a timer or an idle script whose step is taken leaves its table and runs at global level; an error is told
   abbrev pub waiting_meaning : ℕ → List ℕ → Continuation → Continuation
   waiting_meaning id script behind state =
@@ -43,28 +43,28 @@ module _ (run : Run) where
   -- ── one before the other ──
 
   -- a round of the idle scripts that wait, if there are any; else nothing is left to do
-  abbrev pub on_idle : List ℕ → Continuation → Continuation
-  on_idle [] again state = Ended state Normal []
-  on_idle (id ∷ ids) again state = round_meaning (id ∷ ids) again state
+  abbrev pub round_or : List ℕ → Continuation → Continuation
+  round_or [] again state = Ended state Normal []
+  round_or (id ∷ ids) again state = round_meaning (id ∷ ids) again state
 
   -- a layout that changes something: one act, without a step
-  abbrev pub on_layout : List PlaceChange → Continuation → Continuation
-  on_layout [] again state = on_idle (idle_ids state.shows.panel.timers.entries) again state
-  on_layout (change ∷ changes) again state = again (with_whole_panel (laid_out state.store state.shows.panel) state)
+  abbrev pub layout_or : List PlaceChange → Continuation → Continuation
+  layout_or [] again state = round_or (idle_ids state.shows.panel.timers.entries) again state
+  layout_or (change ∷ changes) again state = again (with_whole_panel (laid_out state.store state.shows.panel) state)
 
   -- the timer that is due, the one that was due first
-  abbrev pub on_timer : Option WaitingScript → Continuation → Continuation
-  on_timer None again state = on_layout (changes_due state.shows.panel.windowing state.store) again state
-  on_timer (Some entry) again state = with_step state (waiting_meaning entry.id entry.script again)
+  abbrev pub timer_or : Option WaitingScript → Continuation → Continuation
+  timer_or None again state = layout_or (changes_due state.shows.panel.windowing state.store) again state
+  timer_or (Some entry) again state = with_step state (waiting_meaning entry.id entry.script again)
 
   -- the first of the events that are queued
-  abbrev pub on_queue : List Event → Continuation → Continuation
-  on_queue [] again state = on_timer (first_due state.shows.panel.moment state.shows.panel.timers.entries) again state
-  on_queue (event ∷ events) again state = dispatch_meaning run event again (with_whole_panel (with_queue events state.shows.panel) state)
+  abbrev pub queued_or : List Event → Continuation → Continuation
+  queued_or [] again state = timer_or (first_due state.shows.panel.moment state.shows.panel.timers.entries) again state
+  queued_or (event ∷ events) again state = dispatch_meaning run event again (with_whole_panel (with_queue events state.shows.panel) state)
 
   -- the first item that exists, and what comes again behind it; with no item all is done
   abbrev pub item_meaning : Continuation → Continuation
-  item_meaning again state = on_queue state.shows.panel.queue again state
+  item_meaning again state = queued_or state.shows.panel.queue again state
 
   -- Where there is no main window nothing more is done, and what waits stays listed; the application is closed then (`state_after`).
   abbrev pub settle_item : Continuation → Continuation
@@ -75,4 +75,4 @@ module _ (run : Run) where
   -- a layout, a round of the idle scripts that wait then, and a layout
   abbrev pub idle_tasks_meaning : Continuation
   idle_tasks_meaning state =
-      (let first : Panel = laid_out state.store state.shows.panel in round_meaning (idle_ids first.timers.entries) laid (with_whole_panel first state))
+      (let first : Panel = laid_out state.store state.shows.panel in round_meaning (idle_ids first.timers.entries) with_layout (with_whole_panel first state))

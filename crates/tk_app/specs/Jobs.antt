@@ -11,12 +11,12 @@ use Rattle.tk_panel.specs.Panel.{Panel}
 use Rattle.tk_panel.specs.Settle.{Next}
 use Rattle.tk_panel.specs.Start.{start}
 use Rattle.tk_commands.specs.Course.{ended}
-use Rattle.tk_app.specs.Dispatch.{Run, global_meaning, with_panel_but_moment}
+use Rattle.tk_app.specs.Dispatch.{RunsScripts, global_meaning, with_panel_but_moment}
 use Rattle.tk_app.specs.Outside.{calls, course, run_in}
 use Rattle.tk_app.specs.Seen.{Seen}
 
 -- what a job comes to, where scripts are run so
-abbrev pub meaning_by : Run → Job → State Seen → Outcome Seen
+abbrev pub meaning_by : RunsScripts → Job → State Seen → Outcome Seen
 meaning_by run job state = job_by course calls run job state
 
 -- with room for so many scripts one in another

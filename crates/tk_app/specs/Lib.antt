@@ -1,5 +1,6 @@
 -- What the contracts cite.
 pub mod Application
+pub mod Behind
 pub mod Begun
 pub mod Commands
 pub mod Course

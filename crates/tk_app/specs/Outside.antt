@@ -13,7 +13,7 @@ use Rattle.tk_panel.specs.declared.job.Job.{Job}
 use Rattle.tk_panel.specs.Panel.{Panel}
 use Rattle.tk_commands.specs.Calls.{calls as panel_calls}
 pub use Rattle.tk_app.specs.Course.{course, of_panel}
-use Rattle.tk_app.specs.Dispatch.{Run}
+use Rattle.tk_app.specs.Dispatch.{RunsScripts}
 use Rattle.tk_app.specs.Seen.{Meaning, Seen, served_by, seen_with_panel}
 
 abbrev pub Does : Type 0
@@ -46,5 +46,5 @@ abbrev pub outside : Outside Seen (Task Job)
 outside = outside_of course calls
 
 -- how its scripts are run then, with room for so many one in another
-abbrev pub run_in : ℕ → Run
+abbrev pub run_in : ℕ → RunsScripts
 run_in room = script_meaning outside room

@@ -1,4 +1,4 @@
--- Meaning. What the scripts of an application see of it beside its variables: what it has in the tables, and the commands that the program serves for it.
+-- Meaning. What the scripts of an application see of it beside its variables: its panel, and the commands that the program serves for it.
 use Rattle.std.specs.Prelude.{ℕ, List, [], ◌∷◌, Option, Some, None, if◌then◌else◌, bytes_eq, map}
 use Rattle.tk_alias.specs.Replies.{Answer}
 use Rattle.tk_panel.specs.Panel.{Panel}

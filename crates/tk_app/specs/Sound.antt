@@ -6,13 +6,13 @@ use Rattle.tk_panel.specs.declared.job.Job.{Job}
 use Rattle.tk_tree.specs.Own.{IsSound}
 use Rattle.tk_app.specs.declared.state.AppState.TheVariants.{Running}
 use Rattle.tk_app.specs.Application.{Application, fresh}
-use Rattle.tk_app.specs.Commands.{scripts_in}
+use Rattle.tk_app.specs.Commands.{Update, scripts_in}
 use Rattle.tk_app.specs.Dispatch.{Continuation, global_meaning}
 use Rattle.tk_app.specs.Jobs.{meaning}
 use Rattle.tk_app.specs.Moments.{delivered, settled_by, started_by}
 use Rattle.tk_app.specs.MomentsByJob.{settled, started}
 use Rattle.tk_app.specs.Seen.{Meaning, Seen}
-use Rattle.tk_app.specs.Settle.{IsSettle, IsSoundIn}
+use Rattle.tk_app.specs.Settle.{IsSettle, IsSoundIn, IsUpdate}
 use Rattle.tk_app.specs.Spec.{Spec}
 
 -- where something ends, the windows are numbered so
@@ -20,10 +20,10 @@ abbrev pub EndsSound : Outcome Seen → Type 0
 EndsSound (Ended state code text) = IsSoundIn state
 EndsSound (OutOfSteps state) = Unit {0}
 
--- a script at global level leaves them so, and so does every job
+-- a script at global level leaves them so, by whatever meets the equation of `update`, and so does every job
 abbrev pub KeepsSound : Type 0
 KeepsSound = (room : ℕ) (state : State Seen) → IsSoundIn state
-    → ((script : List ℕ) → EndsSound (global_meaning (scripts_in room) script state)) × ((job : Job) → EndsSound (meaning room job state))
+    → ((update : Update) → IsUpdate update → (script : List ℕ) → EndsSound (global_meaning (scripts_in update room) script state)) × ((job : Job) → EndsSound (meaning room job state))
 
 -- ── of an application by itself ──
 
@@ -39,9 +39,9 @@ module _ {M : Type 0} (answer : M → Meaning) where
     pub delivered : (event : LocalEvent) (application : Application M) → RunsSound application → RunsSound (delivered event application)
     pub settled : (moment : ℕ) (application : Application M) → RunsSound application → RunsSound (settled answer moment application)
 
-  -- Whatever meets the equation of *Settle* makes the same of an application: of one that begins, and of one that runs on.
+  -- Whatever meets the equations of `update` and *Settle* makes the same of an application: of one that begins, and of one that runs on.
   pub record BySettle : Type 0 where
-    pub started : (settle : Continuation) → IsSettle settle → (moment : ℕ) (script : List ℕ) (application : Application M) → IsSound application.windowing.tree
-        → started answer moment script application ≡ started_by answer settle moment script application
-    pub settled : (settle : Continuation) → IsSettle settle → (moment : ℕ) (application : Application M) → RunsSound application
-        → settled answer moment application ≡ settled_by answer settle moment application
+    pub started : (update : Update) → IsUpdate update → (settle : Continuation) → IsSettle update settle → (moment : ℕ) (script : List ℕ) (application : Application M)
+        → IsSound application.windowing.tree → started answer moment script application ≡ started_by answer update settle moment script application
+    pub settled : (update : Update) → IsUpdate update → (settle : Continuation) → IsSettle update settle → (moment : ℕ) (application : Application M)
+        → RunsSound application → settled answer moment application ≡ settled_by answer settle moment application

@@ -1,4 +1,5 @@
 //! What a part comes to, by what is done at a moment. The functions do nothing: their contracts are the laws.
+ghost use Rattle.tk_app.specs.Behind.{DispatchThen, RoundThen, WindowsThen};
 ghost use Rattle.tk_app.specs.Begun.{
   DestroyBegins,
   GenerateBegins,
@@ -20,7 +21,15 @@ ghost use Rattle.tk_app.specs.JobLaws.{
   UpdateGoes,
   UpdatesIdleTasks,
 };
-ghost use Rattle.tk_app.specs.SettleJob.{EndsLaidOut, OnlySettle, OnlyUpdate, Settles, SettlesTwice, Updates};
+ghost use Rattle.tk_app.specs.SettleJob.{
+  EndsLaidOut,
+  OneUpdate,
+  OnlySettle,
+  OnlyUpdate,
+  Settles,
+  SettlesTwice,
+  Updates,
+};
 ghost use Rattle.tk_app.specs.Sound.{BySettle, KeepsSound, StaysSound};
 
 use tk_alias::AliasMeaning;
@@ -37,14 +46,14 @@ pub fn begins_with_script<M: AliasMeaning>()
 
 /// *Settle* is the first item that exists of a queued event, a due timer, a layout that changes something and a round of the idle scripts that
 /// wait, and *Settle* again; nothing more is done where the main window is gone (after(n); the order is this host's own). Nothing else meets that
-/// equation.
+/// equation, by whatever `update` that meets its own.
 pub fn settles()
     ensures equation { Settles }
     ensures only { OnlySettle }
 {}
 
-/// Whatever meets the equation of *Settle* makes the same of an application as its job does: of one whose script runs, and of one that has something
-/// to do at a moment. So what becomes of an application may be read by the equation alone.
+/// Whatever meets the equations of `update` and *Settle* makes the same of an application as their jobs do: of one whose script runs, and of one that
+/// has something to do at a moment. So what becomes of an application may be read by the equations alone.
 pub fn comes_by_settle<M: AliasMeaning>()
     ensures { BySettle M.answer }
 {}
@@ -67,6 +76,14 @@ pub fn dispatches()
     ensures { Dispatches }
 {}
 
+/// What comes behind *Dispatch*, a round of idle scripts and the windows of *Destroy* is done once they have ended, which they do normally, with the
+/// empty text. So what these definitions are given as behind them may be read as what is done then.
+pub fn behind_is_then()
+    ensures dispatch { DispatchThen }
+    ensures round { RoundThen }
+    ensures windows { WindowsThen }
+{}
+
 /// *Destroy*: of each path the window and all below it, in post-order. Each that is still there has its Destroy event dispatched, and then goes
 /// with its bindings, if it is there still (destroy(n)). Once that has ended none of them is there: each had no children left when its turn came,
 /// whatever the scripts did.
@@ -85,11 +102,12 @@ pub fn stays_sound<M: AliasMeaning>()
     ensures { StaysSound M.answer }
 {}
 
-/// What the commands of an application come to by the equations is what its interpreter makes of them, by jobs and their tasks; so scripts are, with
-/// any room for scripts in one another.
+/// What the commands of an application come to by the equations, and by the job of `update`, is what its interpreter makes of them, by jobs and their
+/// tasks; so scripts are, with any room for scripts in one another. By whatever else meets the equation of `update` they come to the same.
 pub fn scripts_by_equations()
     ensures commands { CommandsAreCalled }
     ensures scripts { ScriptsAreRun }
+    ensures update { OneUpdate }
 {}
 
 /// Where no alias serves their names, commands do what these equations say, by whatever name they are called: `update` and `update idletasks`, `destroy`, an

@@ -19,7 +19,7 @@ mod turns;
 mod view;
 
 pub use laws::{
-    begins_with_script, comes_by_settle, commands_begin_jobs, destroys, dispatches,
+    begins_with_script, behind_is_then, comes_by_settle, commands_begin_jobs, destroys, dispatches,
     due_takes_a_step, ends_laid_out, goes_by_next, keeps_sound, scripts_by_equations,
     settled_is_past, settles, settles_from_rest, settles_twice, started_is_past, stays_sound,
     updates, updates_idle_tasks,

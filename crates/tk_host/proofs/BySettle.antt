@@ -1,13 +1,14 @@
--- An application by itself, by the equation of *Settle*.
+-- An application by itself, by the equations of `update` and *Settle*.
 use Rattle.std.proofs.Common.{◌≡◌, ℕ, zero, suc, Bool, true, false, Option, Some, None, List, [], ◌∷◌, refl, ap, ◌∙◌}
 use Rattle.std.specs.Prelude.{nat_eq, if◌then◌else◌}
 use Rattle.tk_base.specs.declared.local_event.LocalEvent.{LocalEvent}
 use Rattle.tk_app.specs.Application.{Application, fresh, next_due}
+use Rattle.tk_app.specs.Commands.{Update}
 use Rattle.tk_app.specs.Dispatch.{Continuation}
 use Rattle.tk_app.specs.Moments.{delivered, settled_by}
 use Rattle.tk_app.specs.MomentsByJob.{settled}
 use Rattle.tk_app.specs.Seen.{Meaning}
-use Rattle.tk_app.specs.Settle.{IsSettle}
+use Rattle.tk_app.specs.Settle.{IsSettle, IsUpdate}
 use Rattle.tk_app.specs.Sound.{RunsSound}
 use Rattle.tk_app.specs.Spec.{Spec}
 use Rattle.tk_app.specs.Due.{settled_if}
@@ -47,12 +48,12 @@ module _ {M : Type 0} (answer : M → Meaning) where
 
   -- ── the same ──
 
-  module _ (settle : Continuation) (meets : IsSettle settle) where
+  module _ (update : Update) (is_update : IsUpdate update) (settle : Continuation) (meets : IsSettle update settle) where
     at_same : (moment : ℕ) (application : Application M) → RunsSound application → at_moment answer moment application ≡ at_moment_by answer settle moment application
     at_same moment application sound = by (next_due application)
       where
         by_test : (b : Bool) → (if b then settled answer moment application else application) ≡ (if b then settled_by answer settle moment application else application)
-        by_test true = (by_settle answer).settled settle meets moment application sound
+        by_test true = (by_settle answer).settled update is_update settle meets moment application sound
         by_test false = refl
 
         by : (o : Option ℕ) → settled_if next_due (settled answer) o moment application ≡ settled_if next_due (settled_by answer settle) o moment application
@@ -65,17 +66,17 @@ module _ {M : Type 0} (answer : M → Meaning) where
     passed_same (suc last) application sound =
         at_same (suc last) (passed answer last application) (passed_sound last application sound) ∙ ap (at_moment_by answer settle (suc last)) (passed_same last application sound)
 
-    events_same : (spec : Spec M) (routed : List LocalEvent) → after_events answer spec routed ≡ after_events_by answer settle spec routed
-    events_same spec [] = (by_settle answer).started settle meets 0 spec.script (fresh spec) ((stays_sound answer).fresh spec refl)
+    events_same : (spec : Spec M) (routed : List LocalEvent) → after_events answer spec routed ≡ after_events_by answer update settle spec routed
+    events_same spec [] = (by_settle answer).started update is_update settle meets 0 spec.script (fresh spec) ((stays_sound answer).fresh spec refl)
     events_same spec (event ∷ earlier) =
         let before = after_events answer spec earlier in
-        (by_settle answer).settled settle meets event.moment (delivered event (passed answer event.moment before)) (given_sound event before (events_sound spec earlier))
+        (by_settle answer).settled update is_update settle meets event.moment (delivered event (passed answer event.moment before)) (given_sound event before (events_sound spec earlier))
         ∙ ap (after_event_by answer settle event) (passed_same event.moment before (events_sound spec earlier))
         ∙ ap (λ application. after_event_by answer settle event (passed_by answer settle event.moment application)) (events_same spec earlier)
 
   pub alone_by_settle : AloneBySettle answer
-  alone_by_settle settle meets spec routed last =
-      passed_same settle meets last (after_events answer spec routed) (events_sound spec routed) ∙ ap (passed_by answer settle last) (events_same settle meets spec routed)
+  alone_by_settle update is_update settle meets spec routed last =
+      passed_same update is_update settle meets last (after_events answer spec routed) (events_sound spec routed) ∙ ap (passed_by answer settle last) (events_same update is_update settle meets spec routed)
 
   pub passed_by_settle : PassedBySettle answer
-  passed_by_settle settle meets last application sound = passed_same settle meets last application sound
+  passed_by_settle update is_update settle meets last application sound = passed_same update is_update settle meets last application sound

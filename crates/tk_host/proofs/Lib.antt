@@ -12,6 +12,7 @@ mod Looks
 mod Order
 mod Parts
 mod Passing
+mod PassesBySettle
 mod Relation
 mod Routing
 mod Settling

@@ -10,7 +10,8 @@ use Rattle.tk_app.specs.Due.{IsPast}
 use Rattle.tk_app.proofs.Passing.{brought_step}
 use Rattle.tk_app.proofs.Stages.{brought_past}
 use Rattle.tk_host.specs.Dues.{brought_by_dues, weight}
-use Rattle.tk_host.specs.Passes.{PassedPasses, Passes}
+use Rattle.tk_host.specs.Passes.{Passes}
+use Rattle.tk_host.specs.PassesByJob.{PassedPasses}
 use Rattle.tk_host.specs.Passes.Passes.{goes_on, reached}
 use Rattle.tk_host.proofs.Passing.{passed_by_dues_holds}
 use Rattle.tk_host.proofs.Settling.{settled_lighter}

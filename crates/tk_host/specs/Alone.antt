@@ -2,6 +2,7 @@
 use Rattle.std.specs.Prelude.{ℕ, zero, suc, List, [], ◌∷◌}
 use Rattle.tk_base.specs.declared.local_event.LocalEvent.{LocalEvent}
 use Rattle.tk_app.specs.Application.{Application, fresh, next_due}
+use Rattle.tk_app.specs.Commands.{Update}
 use Rattle.tk_app.specs.Dispatch.{Continuation}
 use Rattle.tk_app.specs.Moments.{delivered, settled_by, started_by}
 use Rattle.tk_app.specs.Seen.{Meaning}
@@ -25,12 +26,14 @@ module _ {M : Type 0} (answer : M → Meaning) where
     abbrev pub after_event_by : LocalEvent → Application M → Application M
     after_event_by event application = settled_by answer settle event.moment (delivered event application)
 
+  -- by what `update` and *Settle* are
+  module _ (update : Update) (settle : Continuation) where
     -- An application by itself: its script and what comes of it at moment 0, and then the events that are routed to it. They stand with the newest
     -- first; before each come the moments up to the event's.
     abbrev pub after_events_by : Spec M → List LocalEvent → Application M
-    after_events_by spec [] = started_by answer settle 0 spec.script (fresh spec)
-    after_events_by spec (event ∷ earlier) = after_event_by event (passed_by event.moment (after_events_by spec earlier))
+    after_events_by spec [] = started_by answer update settle 0 spec.script (fresh spec)
+    after_events_by spec (event ∷ earlier) = after_event_by settle event (passed_by settle event.moment (after_events_by spec earlier))
 
     -- And last come the moments up to the last.
     abbrev pub alone_by : Spec M → List LocalEvent → ℕ → Application M
-    alone_by spec routed last = passed_by last (after_events_by spec routed)
+    alone_by spec routed last = passed_by settle last (after_events_by spec routed)

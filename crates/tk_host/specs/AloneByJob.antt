@@ -1,10 +1,10 @@
--- Steps. *Alone* where *Settle* is what the code's job comes to. By anything else that meets the equation of *Settle* all of this is the same
+-- Steps. *Alone* where `update` and *Settle* are what the code's jobs come to. By anything else that meets their equations all of this is the same
 -- (`AloneBySettle`, `PassedBySettle`).
 use Rattle.std.specs.Prelude.{ℕ, List}
 use Rattle.tk_base.specs.declared.local_event.LocalEvent.{LocalEvent}
 use Rattle.tk_app.specs.Application.{Application}
 use Rattle.tk_app.specs.Seen.{Meaning}
-use Rattle.tk_app.specs.SettleJob.{settle_meaning}
+use Rattle.tk_app.specs.SettleJob.{settle_meaning, update_meaning}
 use Rattle.tk_app.specs.Spec.{Spec}
 use Rattle.tk_host.specs.Alone.{after_event_by, after_events_by, alone_by, at_moment_by, passed_by}
 
@@ -19,7 +19,7 @@ module _ {M : Type 0} (answer : M → Meaning) where
   after_event = after_event_by answer settle_meaning
 
   abbrev pub after_events : Spec M → List LocalEvent → Application M
-  after_events = after_events_by answer settle_meaning
+  after_events = after_events_by answer update_meaning settle_meaning
 
   abbrev pub alone : Spec M → List LocalEvent → ℕ → Application M
-  alone = alone_by answer settle_meaning
+  alone = alone_by answer update_meaning settle_meaning

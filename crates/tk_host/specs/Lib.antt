@@ -9,6 +9,7 @@ pub mod FirstFormat
 pub mod Held
 pub mod Inspection
 pub mod Passes
+pub mod PassesByJob
 pub mod Ready
 pub mod Refusals
 pub mod Sections

@@ -1,10 +1,14 @@
 -- Meaning. How an application comes to a moment, as a relation. *Alone* lets every moment come; here those alone come at which something is due.
 use Rattle.std.specs.Prelude.{◌≡◌, ◌≤◌, ◌↔◌, ℕ, Option, Some}
 use Rattle.tk_app.specs.Application.{Application, next_due}
-use Rattle.tk_app.specs.MomentsByJob.{settled}
-use Rattle.tk_app.specs.Seen.{Meaning}
+use Rattle.tk_app.specs.Commands.{Update}
+use Rattle.tk_app.specs.Dispatch.{Continuation}
 use Rattle.tk_app.specs.Due.{IsPast}
-use Rattle.tk_host.specs.AloneByJob.{passed}
+use Rattle.tk_app.specs.Moments.{settled_by}
+use Rattle.tk_app.specs.Seen.{Meaning}
+use Rattle.tk_app.specs.Settle.{IsSettle, IsUpdate}
+use Rattle.tk_app.specs.Sound.{RunsSound}
+use Rattle.tk_host.specs.Alone.{passed_by}
 
 -- `next_due` says when something is due next, and `settled` what is left once what is to be done at a moment is done. Where nothing is due by the last
 -- moment, it is reached. Else what is due next is done at its moment, and it goes on from there.
@@ -13,7 +17,8 @@ pub data Passes {P : Type 0} (next_due : P → Option ℕ) (settled : ℕ → P 
   goes_on : {part after : P} (due : ℕ) → next_due part ≡ Some due → due ≤ last → Passes next_due settled last (settled due part) after →
       Passes next_due settled last part after
 
-module _ {M : Type 0} (answer : M → Meaning) where
-  -- An application passes to this, and to nothing else; by whatever meets the equation of *Settle* it passes to the same (`PassedBySettle`).
-  abbrev pub PassedPasses : Type 0
-  PassedPasses = (last : ℕ) (application after : Application M) → Passes next_due (settled answer) last application after ↔ (passed answer last application ≡ after)
+-- An application whose windows are numbered as they were made passes to what *Alone* says, and to nothing else.
+abbrev pub PassesBySettle : {M : Type 0} (answer : M → Meaning) → Type 0
+PassesBySettle {M} answer = (update : Update) → IsUpdate update → (settle : Continuation) → IsSettle update settle
+    → (last : ℕ) (application after : Application M) → RunsSound application
+    → Passes next_due (settled_by answer settle) last application after ↔ (passed_by answer settle last application ≡ after)

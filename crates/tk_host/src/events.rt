@@ -2,7 +2,7 @@
 
 ghost use Rattle.std.specs.Prelude.{◌≡◌, ◌≢◌, ◌<◌, ◌++◌, [], ◌∷◌, map, length, OnErr, OnOk};
 ghost use Rattle.tk_app.specs.Turns.{DeliversIn};
-ghost use Rattle.tk_route.specs.Routes.{deliveries};
+ghost use Rattle.tk_route.specs.Answers.{deliveries};
 ghost use Rattle.tk_host.specs.Cut.{IsCutShort};
 ghost use Rattle.tk_host.specs.Held.{at_rest};
 ghost use Rattle.tk_host.specs.Ready.{AllRest};

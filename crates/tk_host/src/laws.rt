@@ -2,7 +2,8 @@ ghost use Rattle.tk_host.specs.Bounds.{BoundedStages};
 ghost use Rattle.tk_host.specs.BySettle.{AloneBySettle, PassedBySettle};
 ghost use Rattle.tk_host.specs.Dues.{PassedByDues, TurnsByDues};
 ghost use Rattle.tk_host.specs.FirstFormat.{AloneWithoutRefills};
-ghost use Rattle.tk_host.specs.Passes.{PassedPasses};
+ghost use Rattle.tk_host.specs.Passes.{PassesBySettle};
+ghost use Rattle.tk_host.specs.PassesByJob.{PassedPasses};
 ghost use Rattle.tk_host.specs.Refusals.{OneRefusal};
 ghost use Rattle.tk_host.specs.Sections.{EachByItself};
 ghost use Rattle.tk_host.specs.Used.{AllWithin, UsedAndLeft};
@@ -41,12 +42,14 @@ pub fn turns_by_dues<M: AliasMeaning>()
     ensures { TurnsByDues M.answer }
 {}
 
-/// An application by itself comes to the same by anything that meets the equation of *Settle* (the first item that exists of a queued event, a due
-/// timer, a layout that changes something and a round of idle scripts, and *Settle* again): no other part of it rests on the job that does it. So does
-/// any application from moment to moment.
+/// An application by itself comes to the same by anything that meets the equations of `update` and *Settle* (the first item that exists of a queued
+/// event, a due timer, a layout that changes something and a round of idle scripts, and that again): nothing of it rests on the jobs that do it. So does
+/// any application from moment to moment. Where its windows are numbered as they were made, it comes to a moment from due moment to due moment, the
+/// earliest first, as the relation *Passes* says, and to nothing else.
 pub fn alone_by_settle<M: AliasMeaning>()
     ensures alone { AloneBySettle M.answer }
     ensures passed { PassedBySettle M.answer }
+    ensures passes { PassesBySettle M.answer }
 {}
 
 /// An application by itself: the steps that it has taken and those that are left are its total and those that its events granted, which are at

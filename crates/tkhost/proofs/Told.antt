@@ -7,11 +7,12 @@ use Rattle.tk_base.specs.declared.rect.Rect.{Rect}
 use Rattle.tk_base.specs.declared.local_event.LocalEvent.{LocalEvent}
 use Rattle.tk_route.specs.Lines.{Line}
 use Rattle.tk_route.specs.Routes.{routed}
+use Rattle.tk_app.specs.Commands.{Update}
 use Rattle.tk_app.specs.Dispatch.{Continuation}
 use Rattle.tk_app.specs.Part.{Part}
 use Rattle.tk_app.specs.Section.{section}
 use Rattle.tk_app.specs.Seen.{Meaning}
-use Rattle.tk_app.specs.Settle.{IsSettle}
+use Rattle.tk_app.specs.Settle.{IsSettle, IsUpdate}
 use Rattle.tk_app.specs.Spec.{Spec}
 use Rattle.tk_route.specs.declared.fault.LineFault.TheVariants.{Broken}
 use Rattle.tk_host.specs.declared.phase.Phase.{Phase}
@@ -86,21 +87,21 @@ module _ {M : Type 0} (answer : M → Meaning) where
       ∙ told_from plan.end (map rect_of (givens plan.apps lists)) (newest_first plan.events) 0 plan.apps lists
       ∙ ap (λ first. flat_map (λ bytes. bytes) (sections_from answer plan.end first (newest_first plan.events) 0 (specs_of plan.apps lists))) (givens-rects plan.apps lists serve)
 
-  -- ── by the equation of *Settle* ──
+  -- ── by the equations of `update` and *Settle* ──
 
-  module _ (settle : Continuation) (meets : IsSettle settle) where
+  module _ (update : Update) (is_update : IsUpdate update) (settle : Continuation) (meets : IsSettle update settle) where
     same_in : (plan : Plan) (specs : List (ℕ × Spec M))
         → map (λ (numbered : ℕ × Spec M). section (alone answer numbered.1 (routed (rects_of plan.apps) (newest_first plan.events) numbered.0) plan.end)) specs
-        ≡ map (λ (numbered : ℕ × Spec M). section (alone_by answer settle numbered.1 (routed (rects_of plan.apps) (newest_first plan.events) numbered.0) plan.end)) specs
+        ≡ map (λ (numbered : ℕ × Spec M). section (alone_by answer update settle numbered.1 (routed (rects_of plan.apps) (newest_first plan.events) numbered.0) plan.end)) specs
     same_in plan [] = refl
     same_in plan (numbered ∷ specs) =
         let events = routed (rects_of plan.apps) (newest_first plan.events) numbered.0 in
         ap
         (λ application. section application ∷ map (λ (other : ℕ × Spec M). section (alone answer other.1 (routed (rects_of plan.apps) (newest_first plan.events) other.0) plan.end)) specs)
-        (alone_by_settle answer settle meets numbered.1 events plan.end)
-        ∙ ap (λ rest. section (alone_by answer settle numbered.1 events plan.end) ∷ rest) (same_in plan specs)
+        (alone_by_settle answer update is_update settle meets numbered.1 events plan.end)
+        ∙ ap (λ rest. section (alone_by answer update settle numbered.1 events plan.end) ∷ rest) (same_in plan specs)
 
-    pub sections_same : (plan : Plan) (lists : List (List (List ℕ × M))) → sections_of answer plan lists ≡ sections_by answer settle plan lists
+    pub sections_same : (plan : Plan) (lists : List (List (List ℕ × M))) → sections_of answer plan lists ≡ sections_by answer update settle plan lists
     sections_same plan lists = ap (λ sections. flat_map (λ bytes. bytes) sections) (same_in plan (enumerate_from 0 (specs_of plan.apps lists)))
 
   -- ── two sessions ──

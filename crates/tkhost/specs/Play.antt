@@ -4,6 +4,7 @@ use Rattle.std.specs.List.{enumerate_from}
 use Rattle.tk_route.specs.Routes.{routed}
 use Rattle.tk_alias.specs.Replies.{IsReply}
 use Rattle.tk_alias.specs.declared.reply.AliasReply.{AliasReply}
+use Rattle.tk_app.specs.Commands.{Update}
 use Rattle.tk_app.specs.Dispatch.{Continuation}
 use Rattle.tk_app.specs.Section.{section}
 use Rattle.tk_app.specs.Seen.{Meaning, names_of}
@@ -50,13 +51,13 @@ module _ {M : Type 0} where
   specs_of (app ∷ apps) (aliases ∷ lists) = spec_of app aliases ∷ specs_of apps lists
 
 module _ {M : Type 0} (answer : M → Meaning) where
-  -- by what *Settle* is
-  module _ (settle : Continuation) where
+  -- by what `update` and *Settle* are
+  module _ (update : Update) (settle : Continuation) where
     -- The section of each application of a session, in their order: that of the application by itself, with its own aliases and the events that are
     -- routed to its slot, up to the session's end.
     abbrev pub sections_in_by : Plan → List (List (List ℕ × M)) → List (List ℕ)
     sections_in_by plan lists =
-        map (λ (numbered : ℕ × Spec M). section (alone_by answer settle numbered.1 (routed (rects_of plan.apps) (newest_first plan.events) numbered.0) plan.end))
+        map (λ (numbered : ℕ × Spec M). section (alone_by answer update settle numbered.1 (routed (rects_of plan.apps) (newest_first plan.events) numbered.0) plan.end))
         (enumerate_from 0 (specs_of plan.apps lists))
 
     -- and what is written of them: these one after another, and nothing else

@@ -1,21 +1,21 @@
--- Steps. What is written of a session, where *Settle* is what the code's job comes to: the job meets the equation of *Settle*, and by anything else
--- that meets it the sections are the same (`AloneBySettle`).
+-- Steps. What is written of a session, where `update` and *Settle* are what the code's jobs come to: the jobs meet their equations, and by anything
+-- else that meets these the sections are the same (`AloneBySettle`).
 use Rattle.std.specs.Prelude.{◌≡◌, ℕ, List, map, slice_get, Some}
 use Rattle.tk_route.specs.Routes.{routed}
 use Rattle.tk_alias.specs.Services.{answer_of}
 use Rattle.tk_alias.specs.declared.service.Service.{Service}
 use Rattle.tk_app.specs.Seen.{Meaning}
-use Rattle.tk_app.specs.SettleJob.{settle_meaning}
+use Rattle.tk_app.specs.SettleJob.{settle_meaning, update_meaning}
 use Rattle.tk_app.specs.Spec.{Spec}
 use Rattle.tk_session.specs.Session.{Plan, newest_first, rects_of}
 use Rattle.tkhost.specs.Play.{sections_by, sections_in_by, services_in, specs_of}
 
 module _ {M : Type 0} (answer : M → Meaning) where
   abbrev pub sections_in : Plan → List (List (List ℕ × M)) → List (List ℕ)
-  sections_in = sections_in_by answer settle_meaning
+  sections_in = sections_in_by answer update_meaning settle_meaning
 
   abbrev pub sections_of : Plan → List (List (List ℕ × M)) → List ℕ
-  sections_of = sections_by answer settle_meaning
+  sections_of = sections_by answer update_meaning settle_meaning
 
   -- Two sessions that end at the same moment, and have an application each with the same spec, be it in two places, to which the same events are
   -- routed, give it the same bytes, whatever else they say.

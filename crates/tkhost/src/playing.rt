@@ -9,8 +9,9 @@ ghost use Rattle.tk_host.specs.Refusals.{RefusesApp, add_faults};
 ghost use Rattle.tk_session.specs.Session.{AreAllowed, rects_of};
 ghost use Rattle.tkhost.specs.Output.{AppendsFront};
 ghost use Rattle.tkhost.specs.Calls.{adding, given_of, lining};
+ghost use Rattle.tk_app.specs.Commands.{Update};
 ghost use Rattle.tk_app.specs.Dispatch.{Continuation};
-ghost use Rattle.tk_app.specs.Settle.{IsSettle};
+ghost use Rattle.tk_app.specs.Settle.{IsSettle, IsUpdate};
 ghost use Rattle.tkhost.specs.Play.{Serve, sections_by};
 ghost use Rattle.tkhost.specs.Sections.{sections_of};
 
@@ -213,9 +214,8 @@ fn write_sections<M: AliasService, W: Write>(
 ///
 /// What each application's section is rests on its own name, size, script, budget and aliases, on the events that are routed to it, and on
 /// the moment of the end: on nothing that another does. What is done at a moment is what *Settle*'s equation says, the first item that exists of a
-/// queued event, a due timer, a layout that changes something and a round of idle scripts, again and again: whatever meets that equation gives
-/// these sections. `update` in a script is the same without the test for the main window: here it is what the code's job comes to, of which law
-/// `updates` of `tk_app` says the equation.
+/// queued event, a due timer, a layout that changes something and a round of idle scripts, again and again; `update` in a script is the same without
+/// the test for the main window. Whatever meets these two equations gives these sections.
 pub fn play<M: AliasService, W: Write>(
     alloc: Global,
     session: &Session,
@@ -225,8 +225,8 @@ pub fn play<M: AliasService, W: Write>(
 ) -> Result<(), PlayFault>
     requires slice { 1 ≤ slice }
     requires serve { Serve session.now.apps aliases.items }
-    ensures sections { (settle : Continuation) → IsSettle settle
-        → OnOk result (Appends (W.contents writer.old) (W.contents writer.new) (sections_by M.answer settle session.now aliases.items)) }
+    ensures sections { (update : Update) → IsUpdate update → (settle : Continuation) → IsSettle update settle
+        → OnOk result (Appends (W.contents writer.old) (W.contents writer.new) (sections_by M.answer update settle session.now aliases.items)) }
     ensures by_job { OnOk result (Appends (W.contents writer.old) (W.contents writer.new) (sections_of M.answer session.now aliases.items)) }
     ensures write { result ≡ Err PlayFault.Write
         → AppendsFront (W.contents writer.old) (W.contents writer.new) (sections_of M.answer session.now aliases.items) }

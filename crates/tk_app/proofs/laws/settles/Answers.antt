@@ -1,5 +1,5 @@
 use Rattle.tk_app.proofs.ByEquations.{settles_all}
-use Rattle.tk_app.proofs.Only.{only_settle}
+use Rattle.tk_app.proofs.ByUpdate.{only_settle}
 use Rattle.tk_app.proofs.laws.settles.Goals as goal
 
 pub returns : goal.returns

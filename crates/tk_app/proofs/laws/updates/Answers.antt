@@ -1,5 +1,5 @@
 use Rattle.tk_app.proofs.ByEquations.{update_job, updates}
-use Rattle.tk_app.proofs.Only.{only_update}
+use Rattle.tk_app.proofs.ByUpdate.{only_update}
 use Rattle.tk_app.proofs.laws.updates.Goals as goal
 
 pub returns : goal.returns

@@ -1,5 +1,5 @@
 use Rattle.std.proofs.Common.{◌≡◌, List, map, sym, ap, ◌∙◌, subst}
-use Rattle.tk_route.specs.Routes.{deliveries}
+use Rattle.tk_route.specs.Answers.{deliveries}
 use Rattle.tk_route.specs.declared.delivery.Routed.{Routed}
 use Rattle.tk_app.specs.Application.{Application}
 use Rattle.tk_host.specs.Held.{at_rest}

@@ -3,7 +3,7 @@ use Rattle.std.proofs.lemmas.Result.{on_err_weaker}
 use Rattle.tk_app.specs.Stages.{first_moment_due}
 use Rattle.tk_app.specs.Due.{IsPast}
 use Rattle.tk_route.specs.Lines.{at}
-use Rattle.tk_route.specs.Routes.{deliveries}
+use Rattle.tk_route.specs.Answers.{deliveries}
 use Rattle.tk_app.specs.Application.{next_due}
 use Rattle.tk_app.specs.MomentsByJob.{settled}
 use Rattle.tk_app.specs.Turns.{Applications}

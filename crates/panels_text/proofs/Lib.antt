@@ -5,5 +5,6 @@ pub mod PushLemmas
 pub mod RefusalLemmas
 pub mod ReportLemmas
 pub mod RowLemmas
+pub mod ScriptLemmas
 pub mod TableLemmas
 pub mod Turns

@@ -1,4 +1,5 @@
 -- What the contracts cite.
+pub mod Asking
 pub mod CommandLine
 pub mod Differences
 pub mod Keys
@@ -7,7 +8,10 @@ pub mod Meant
 pub mod Places
 pub mod Refusals
 pub mod Reports
+pub mod Roles
 pub mod Rows
+pub mod Runners
+pub mod Scripts
 pub mod Tables
 pub mod Texts
 pub mod Verdicts

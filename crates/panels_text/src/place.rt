@@ -88,7 +88,7 @@ pub fn line_of(bench: &str, array: &str, index: usize, key: &str) -> usize
 }
 
 /// How many lines end in a text.
-fn count_breaks(bytes: &[u8]) -> usize
+pub(crate) fn count_breaks(bytes: &[u8]) -> usize
     ensures breaks { result ≡ count_breaks bytes.now }
     ensures most { result ≤ length bytes.now }
 {

@@ -39,7 +39,7 @@ fn up_to_quote(text: &str) -> Option<&str>
 }
 
 /// Whether a text has a part.
-fn has_part(text: &str, part: &str) -> bool
+pub fn has_part(text: &str, part: &str) -> bool
     ensures { result ≡ has_part part.now text.now }
 {
     text.contains(part)
@@ -71,7 +71,7 @@ fn index_of(question: &Question, first: usize, wanted: &str) -> Option<usize>
 }
 
 /// Whether a text begins with another.
-fn begins(text: &str, front: &str) -> bool
+pub fn begins(text: &str, front: &str) -> bool
     ensures { result ≡ starts_with nat_eq text.now front.now }
 {
     text.starts_with(front)

@@ -27,7 +27,7 @@ pub struct Part<'a> {
 }
 
 impl<'a> Part<'a> {
-    ghost use Rattle.std.specs.Prelude.{◌≡◌, ◌≤◌, ◌∷◌, [], map, length, codes, slice_get, ℕ, false, Some, None, is_some, option_map, IfErr, IfOk, IfSome, OnErr, OnOk, MatchOption};
+    ghost use Rattle.std.specs.Prelude.{◌≡◌, ◌≤◌, ◌∷◌, [], map, length, codes, slice_get, ℕ, false, true, Some, None, is_some, option_map, IfErr, IfOk, IfSome, OnErr, OnOk, MatchOption};
     ghost use Rattle.toml.specs.Data.{boolean, string};
     ghost use Rattle.toml.specs.View.{items_view, table_view, view};
     ghost use Rattle.panels_text.specs.Places.{IsFault};
@@ -92,7 +92,7 @@ impl<'a> Part<'a> {
     }
 
     /// The value of a key.
-    fn value(&self, key: &str) -> Option<&'a Value>
+    pub fn value(&self, key: &str) -> Option<&'a Value>
         ensures { option_map (λ value. view value.now) result ≡ value_of self.now key.now }
     {
         self.table.get(key)
@@ -133,6 +133,7 @@ impl<'a> Part<'a> {
         ensures most { IfOk result (λ number. IfSome number (λ number. number ≤ most)) }
         ensures ok { IfOk result (λ number. MatchOption number (value_of self.now key.now ≡ None) (λ number. number_in most (value_of self.now key.now) ≡ Some number)) }
         ensures other { OnErr result (number_in most (value_of self.now key.now) ≡ None) }
+        ensures there { OnErr result (is_some (value_of self.now key.now) ≡ true) }
     {
         let Some(value) = self.value(key) else {
             return Ok(None);

@@ -19,7 +19,7 @@ pub fn as_text(bytes: &[u8]) -> &str
 }
 
 /// What stands behind a front, where a text begins with it.
-pub(crate) fn behind<'a>(text: &'a str, front: &str) -> Option<&'a str>
+pub fn behind<'a>(text: &'a str, front: &str) -> Option<&'a str>
     ensures { option_map (λ rest. rest.now) result ≡ behind front.now text.now }
 {
     text.strip_prefix(front)
@@ -33,7 +33,7 @@ pub(crate) fn before<'a>(text: &'a str, end: &str) -> Option<&'a str>
 }
 
 /// What stands before the first blank of a line; all where there is none.
-pub(crate) fn first_word(line: &str) -> &str
+pub fn first_word(line: &str) -> &str
     ensures { result.now ≡ first_word line.now }
 {
     match line.split_once(' ') {
@@ -43,7 +43,7 @@ pub(crate) fn first_word(line: &str) -> &str
 }
 
 /// The first line of a text.
-pub(crate) fn first_line(text: &str) -> &str
+pub fn first_line(text: &str) -> &str
     ensures { result.now ≡ first_line text.now }
 {
     match text.split_once('\n') {
@@ -60,7 +60,7 @@ fn has_line(text: &str, line: &str) -> bool
 }
 
 /// The lines of a text.
-pub(crate) fn lines_of<'a>(alloc: Global, text: &'a str) -> Result<Vec<&'a str>, AllocError>
+pub fn lines_of<'a>(alloc: Global, text: &'a str) -> Result<Vec<&'a str>, AllocError>
     ensures { IfOk result (λ lines. map (λ line. line.now) lines.items ≡ lines_of text.now) }
 {
     text.split('\n').collect(alloc)

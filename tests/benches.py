@@ -555,6 +555,20 @@ def drawn(top):
     see(list(boxes(pictures[-1])["thermostat"][1]) == wanted, "the last picture of the thermostat has other windows than its section")
 
 
+def read_terminal(ours):
+    """All that was written to a terminal which nobody has open any more. What was written last may come by a later read."""
+    pieces = []
+    while True:
+        try:
+            piece = os.read(ours, 65536)
+        except OSError:
+            piece = b""
+        if not piece:
+            os.close(ours)
+            return b"".join(pieces).decode()
+        pieces.append(piece)
+
+
 def around(top):
     """What the environment says, and what a terminal shows."""
     def run(names, **more):
@@ -576,8 +590,7 @@ def around(top):
     ours, theirs = pty.openpty()
     ended = subprocess.run([built(BENCHES), "check", *names], cwd=FOLDER, stdout=subprocess.PIPE, stderr=theirs, text=True, timeout=120)
     os.close(theirs)
-    shown = os.read(ours, 65536).decode()
-    os.close(ours)
+    shown = read_terminal(ours)
     see(ended.returncode == 0 and "\r" not in ended.stdout and f"{len(names)} of {len(names)}: {names[-1]}" in shown and shown.endswith("\r\x1b[K"), f"a terminal shows {shown!r}")
 
 

@@ -5,7 +5,8 @@ use Rattle.tcl_text.specs.declared.commands.answers.Refusal.{Refusal}
 use Rattle.tcl_text.specs.declared.commands.answers.Refusal.TheVariants.{Error, NoMemory}
 use Rattle.tcl_vars.specs.Store.{Store, with_variable}
 use Rattle.tcl_text.specs.declared.fault.SetFault.{SetFault}
-use Rattle.tcl_commands.specs.Done.{Done, keeps, Does}
+use Rattle.tcl_commands.specs.Done.{Done, keeps}
+use Rattle.tcl_commands.specs.Refusals.{Does}
 use Rattle.tcl_commands.specs.Texts.{cannot_set}
 use Rattle.tcl_commands.specs.Values.{value_set, changed_to}
 

@@ -3,7 +3,8 @@ use Rattle.std.proofs.Common.{◌≡◌, ℕ, List, Ok, Err, Result, refl, sym, 
 use Rattle.tcl_text.specs.declared.commands.answers.Refusal.{Refusal}
 use Rattle.tcl_text.specs.declared.commands.answers.Refusal.TheVariants.{Error, NoMemory}
 use Rattle.tcl_vars.specs.Store.{Store}
-use Rattle.tcl_commands.specs.Done.{Done, Does, Steps, unless_refused}
+use Rattle.tcl_commands.specs.Done.{Done, unless_refused}
+use Rattle.tcl_commands.specs.Refusals.{Does, Steps}
 
 -- a step that was done
 pub step_done : (others : Store → Done) (old new : Store) (step : Result Store (List ℕ)) → step ≡ Ok new → unless_refused others old step ≡ others new

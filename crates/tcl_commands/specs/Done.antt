@@ -1,8 +1,6 @@
 -- Meaning. What a command leaves of the variables, and what it answers.
-use Rattle.std.specs.Prelude.{◌≡◌, ℕ, List, [], ◌∷◌, Result, Ok, Err, ⊤}
+use Rattle.std.specs.Prelude.{ℕ, List, [], ◌∷◌, Result, Ok, Err}
 use Rattle.tcl_text.specs.Answers.{Answer}
-use Rattle.tcl_text.specs.declared.commands.answers.Refusal.{Refusal}
-use Rattle.tcl_text.specs.declared.commands.answers.Refusal.TheVariants.{Error, NoMemory}
 use Rattle.tcl_vars.specs.Store.{Store}
 
 pub record Done : Type 0 where
@@ -34,23 +32,3 @@ abbrev pub pairs : List (List ℕ) → List (List ℕ × List ℕ)
 pairs [] = []
 pairs (x ∷ []) = []
 pairs (x ∷ y ∷ others) = (x, y) ∷ pairs others
-
--- ── steps ──
-
--- a step that left this store did what the definition says, unless memory was refused
-abbrev pub Does : Result (List ℕ) Refusal → Store → Done → Type 0
-Does (Ok text) store wanted = wanted ≡ record { store = store; answer = Ok text }
-Does (Err (Error message)) store wanted = wanted ≡ record { store = store; answer = Err message }
-Does (Err NoMemory) store wanted = ⊤
-
--- what holds where memory was refused
-abbrev pub IfNoMemory : {T : Type 0} → Result T Refusal → Type 0 → Type 0
-IfNoMemory (Ok value) fact = ⊤
-IfNoMemory (Err (Error message)) fact = ⊤
-IfNoMemory (Err NoMemory) fact = fact
-
--- a step was done as the definition says; where it was refused, or memory was, the variables stay
-abbrev pub Steps : {U : Type 0} → Result U Refusal → Store → Store → Result Store (List ℕ) → Type 0
-Steps (Ok unit) old new wanted = wanted ≡ Ok new
-Steps (Err (Error message)) old new wanted = (wanted ≡ Err message) × (new ≡ old)
-Steps (Err NoMemory) old new wanted = new ≡ old

@@ -9,6 +9,7 @@ pub mod Edits
 pub mod Groups
 pub mod Links
 pub mod Parameters
+pub mod Refusals
 pub mod Shapes
 pub mod Texts
 pub mod Unset

@@ -1,7 +1,7 @@
 //! The commands on variables, by their names.
 ghost use Rattle.std.specs.Prelude.{◌≡◌, ◌<◌, length, IfOk};
 ghost use Rattle.tcl_commands.specs.Commands as spec;
-ghost use Rattle.tcl_commands.specs.Done.{Does};
+ghost use Rattle.tcl_commands.specs.Refusals.{Does};
 ghost use Rattle.tcl_commands.specs.Links.{upvar_words};
 ghost use Rattle.tcl_commands.specs.Values.{exists_words};
 

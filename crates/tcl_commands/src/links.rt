@@ -1,6 +1,6 @@
 //! The commands of global(n) and upvar(n).
 ghost use Rattle.std.specs.Prelude.{◌≡◌, ◌<◌, length, IfOk};
-ghost use Rattle.tcl_commands.specs.Done.{Does, Steps};
+ghost use Rattle.tcl_commands.specs.Refusals.{Does, Steps};
 ghost use Rattle.tcl_commands.specs.Links as spec;
 
 use std::alloc::{AllocError, Global};

@@ -1,6 +1,6 @@
 //! The command of unset(n).
 ghost use Rattle.std.specs.Prelude.{◌≡◌, ◌<◌, length};
-ghost use Rattle.tcl_commands.specs.Done.{Does, Steps};
+ghost use Rattle.tcl_commands.specs.Refusals.{Does, Steps};
 ghost use Rattle.tcl_commands.specs.Unset as spec;
 
 use std::alloc::Global;

@@ -5,7 +5,7 @@ ghost use Rattle.std.specs.Option.{option_copied};
 ghost use Rattle.tcl_text.specs.Answers.{Gives, answers};
 ghost use Rattle.tcl_text.specs.Limits.{most_bytes, most_in_place};
 ghost use Rattle.tcl_vars.specs.Store.{variable_in, with_variable};
-ghost use Rattle.tcl_commands.specs.Done.{Does, IfNoMemory};
+ghost use Rattle.tcl_commands.specs.Refusals.{Does, IfNoMemory};
 ghost use Rattle.tcl_commands.specs.Edits.{edit_answer};
 ghost use Rattle.tcl_commands.specs.Values as spec;
 

@@ -14,3 +14,4 @@ pub mod Procedures
 pub mod Loops
 pub mod Usages
 pub mod Variables
+pub mod Verdicts

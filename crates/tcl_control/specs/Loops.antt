@@ -5,8 +5,6 @@ use Rattle.tcl_commands.specs.Groups.{advanced, has_more}
 use Rattle.tcl_commands.specs.declared.groups.Group.{Group}
 use Rattle.tcl_control.specs.Assign.{Assigned, groups_assigned}
 use Rattle.tcl_vars.specs.Store.{Store}
-use Rattle.tcl_control.specs.declared.loops.Verdict.{Verdict}
-use Rattle.tcl_control.specs.declared.loops.Verdict.TheVariants as verdict
 
 -- what a test comes to, and the variables then: another iteration, and the items behind it; none; or an error's text
 pub data Tested : Type 0 where
@@ -24,9 +22,3 @@ after_assigned groups assigned = by_assigned groups assigned.store assigned.refu
 -- names are given their items, where some are left and variables are those of a level
 abbrev pub items_tested : ℕ → List Group → Store → Tested
 items_tested level groups store = if list_any has_more groups then after_assigned groups (groups_assigned level groups store) else NoMore store
-
--- what a verdict says, with the variables that are left
-abbrev pub tested_as : Verdict → Store → Tested
-tested_as (verdict.More groups) store = More store groups
-tested_as verdict.NoMore store = NoMore store
-tested_as (verdict.Fails text) store = Fails store text

@@ -1,5 +1,6 @@
 ghost use Rattle.std.specs.Prelude.{◌≡◌, ◌<◌, length, map, IfOk};
-ghost use Rattle.tcl_control.specs.Loops.{tested_as, items_tested};
+ghost use Rattle.tcl_control.specs.Loops.{items_tested};
+ghost use Rattle.tcl_control.specs.Verdicts.{tested_as};
 
 use crate::assign::assign_groups;
 use crate::expression::Expression;

@@ -6,8 +6,8 @@ use Rattle.tcl_expr.specs.declared.value.Value.{Value}
 use Rattle.tcl_expr.specs.declared.step.Step.{Step}
 use Rattle.tcl_expr.specs.declared.step.Step.TheVariants as step
 use Rattle.tcl_expr.specs.Values.{truth_value}
-use Rattle.tcl_expr.specs.Run.{Run, on_result, on_truth}
-use Rattle.tcl_expr.specs.Trees.{Tree, Integer, Plain, Variable, Element, Command, Joined, Unary, Binary, And, Or, Choice, literal, value, evaluation}
+use Rattle.tcl_expr.specs.Run.{Run, on_result, on_truth, value, evaluation}
+use Rattle.tcl_expr.specs.Trees.{Tree, Integer, Plain, Variable, Element, Command, Joined, Unary, Binary, And, Or, Choice, literal}
 use Rattle.tcl_expr.specs.Steps.{execute, literal_step, steps_of}
 use Rattle.tcl_expr.specs.Reading.{compiled_by}
 use Rattle.tcl_expr.specs.Resuming.{steps_in}

@@ -17,7 +17,7 @@ use Rattle.tcl_expr.specs.declared.operators.NumberOperator.TheVariants as numbe
 use Rattle.tcl_expr.specs.declared.step.Step.{Step}
 use Rattle.tcl_expr.specs.declared.value.Value.{Value}
 use Rattle.tcl_expr.specs.declared.value.Value.TheVariants.{Number, Words}
-use Rattle.tcl_expr.specs.Values.{number_of, number_or_fault, truth_of, truth_or_fault, needed_truth, held, arithmetic, truth_value, holds, order_by, unary_value, binary_value, ◌>>=◌}
+use Rattle.tcl_expr.specs.Values.{number_of, number_or_fault, truth_of, truth_or_fault, needed_truth, or_overflow, arithmetic, truth_value, holds, order_by, unary_value, binary_value, ◌>>=◌}
 use Rattle.tcl_expr.specs.Trees.{final_by, final_text}
 use Rattle.tcl_expr.specs.declared.step.Step.TheVariants as step
 use Rattle.tcl_expr.specs.declared.state.State.{State}
@@ -98,8 +98,8 @@ final_is (Words text) n h = ap (final_by (Words text)) h
 
 -- ── operators ──
 
-held_is : (o : Option ℤ) (n : ℤ) → o ≡ Some n → (held o >>= (λ k. Ok (Number k))) ≡ Ok (Number n)
-held_is o n h = ap (λ p. held p >>= (λ k. Ok (Number k))) h
+held_is : (o : Option ℤ) (n : ℤ) → o ≡ Some n → (or_overflow o >>= (λ k. Ok (Number k))) ≡ Ok (Number n)
+held_is o n h = ap (λ p. or_overflow p >>= (λ k. Ok (Number k))) h
 
 -- a unary operator on an integer
 pub unary_is : (operator : UnaryOperator) (v : Value) (i n : ℤ) → Is v i → unary_integer operator i ≡ Some n → (w : Value) × Is w n × (unary_value operator v ≡ Ok w)
@@ -107,7 +107,7 @@ unary_is Not v i n h e = (truth_value (not (is_nonzero i)), truth_is (not (is_no
 unary_is Negate v i n h e = (
   Number n,
   refl,
-  ap (λ o. number_or_fault (number_operator.Unary Negate) o >>= (λ k. held (in_64_bits (neg_ℤ k)) >>= (λ m. Ok (Number m)))) h ∙ held_is (in_64_bits (neg_ℤ i)) n e,
+  ap (λ o. number_or_fault (number_operator.Unary Negate) o >>= (λ k. or_overflow (in_64_bits (neg_ℤ k)) >>= (λ m. Ok (Number m)))) h ∙ held_is (in_64_bits (neg_ℤ i)) n e,
 )
 unary_is Keep v i n h e = (Number i, e, ap (λ o. number_or_fault (number_operator.Unary Keep) o >>= (λ k. Ok (Number k))) h)
 unary_is Complement v i n h e = (Number (complement i), e, ap (λ o. number_or_fault (number_operator.Unary Complement) o >>= (λ k. Ok (Number (complement k)))) h)

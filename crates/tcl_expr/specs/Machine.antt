@@ -13,8 +13,8 @@ use Rattle.tcl_expr.specs.declared.machine.Turn.TheVariants.{Skip, Stop}
 use Rattle.tcl_expr.specs.declared.machine.Halt.{Halt}
 use Rattle.tcl_expr.specs.declared.machine.Advance.{Advance}
 use Rattle.tcl_expr.specs.declared.machine.Advance.TheVariants.{On, Halted}
-use Rattle.tcl_expr.specs.Run.{Run, Ends, asks}
-use Rattle.tcl_expr.specs.Steps.{perform, execute}
+use Rattle.tcl_expr.specs.Run.{Run, Ends}
+use Rattle.tcl_expr.specs.Steps.{asks, perform, execute}
 
 -- the step that asks something; a value is asked by none
 abbrev pub asking : Ask → List Step

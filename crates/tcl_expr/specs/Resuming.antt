@@ -10,8 +10,8 @@ use Rattle.tcl_expr.specs.declared.value.Value.TheVariants.{Words}
 use Rattle.tcl_expr.specs.declared.step.Step.{Step}
 use Rattle.tcl_expr.specs.declared.state.State.{State}
 use Rattle.tcl_expr.specs.declared.state.State.TheVariants.{Ready, Waiting, Ended, Failed}
-use Rattle.tcl_expr.specs.Run.{Run, Ends, asks}
-use Rattle.tcl_expr.specs.Steps.{execute}
+use Rattle.tcl_expr.specs.Run.{Run, Ends}
+use Rattle.tcl_expr.specs.Steps.{asks, execute}
 
 -- the steps that are left, the values that wait for them, and whether something was asked
 pub record Resumption : Type 0 where

@@ -2,6 +2,8 @@
 use Rattle.std.specs.Prelude.{ℕ, zero, suc, true, false, ◌++◌, List, [], ◌∷◌, length, if◌then◌else◌, ℤ, pos, Option, Some, None, Ok, Err}
 use Rattle.tcl_text.specs.Readings.{integer_of}
 use Rattle.tcl_expr.specs.declared.fault.EvalFault.TheVariants.{Overflow}
+use Rattle.tcl_expr.specs.declared.ask.Ask.{Ask}
+use Rattle.tcl_expr.specs.declared.ask.Ask.TheVariants as ask
 use Rattle.tcl_expr.specs.declared.value.Value.{Value}
 use Rattle.tcl_expr.specs.declared.value.Value.TheVariants.{Number, Words}
 use Rattle.tcl_expr.specs.declared.step.Step.{Step}
@@ -9,6 +11,13 @@ use Rattle.tcl_expr.specs.declared.step.Step.TheVariants as step
 use Rattle.tcl_expr.specs.Values.{truth_value, text_of_value, unary_value, binary_value}
 use Rattle.tcl_expr.specs.Run.{Run, AsksVariable, AsksElement, AsksCommand, Ends, on_result, on_truth}
 use Rattle.tcl_expr.specs.Trees.{Tree, Integer, Plain, Variable, Element, Command, Joined, Unary, Binary, And, Or, Choice, joined_values, final_text}
+
+-- what is asked, and what the answer leads to
+abbrev pub asks : Ask → (List ℕ → Run) → Run
+asks (ask.Variable name) go = AsksVariable name go
+asks (ask.Element array index) go = AsksElement array index go
+asks (ask.Command script) go = AsksCommand script go
+asks (ask.Value text) go = Ends (Ok text)
 
 -- ── what steps come to ──
 

@@ -1,5 +1,5 @@
--- Meaning. The tree of an expression, and its value.
-use Rattle.std.specs.Prelude.{ℕ, true, false, ◌++◌, List, length, nat_le, if◌then◌else◌, ℤ, Option, Some, None, Result, Ok, Err}
+-- Meaning. The tree of an expression, and what its parts make of values. Its value is `value_meaning` of tcl_interp, where variables and scripts are.
+use Rattle.std.specs.Prelude.{ℕ, ◌++◌, List, length, nat_le, if◌then◌else◌, ℤ, Option, Some, None, Result, Ok, Err}
 use Rattle.std.specs.Fmt.{signed_decimal}
 use Rattle.tcl_text.specs.Readings.{integer_of}
 use Rattle.tcl_expr.specs.declared.fault.EvalFault.{EvalFault}
@@ -8,8 +8,7 @@ use Rattle.tcl_expr.specs.declared.operators.UnaryOperator.{UnaryOperator}
 use Rattle.tcl_expr.specs.declared.operators.BinaryOperator.{BinaryOperator}
 use Rattle.tcl_expr.specs.declared.value.Value.{Value}
 use Rattle.tcl_expr.specs.declared.value.Value.TheVariants.{Number, Words}
-use Rattle.tcl_expr.specs.Values.{truth_value, text_of_value, unary_value, binary_value}
-use Rattle.tcl_expr.specs.Run.{Run, AsksVariable, AsksElement, AsksCommand, Ends, on_result, on_truth}
+use Rattle.tcl_expr.specs.Values.{text_of_value}
 use Rattle.tcl_text.specs.Limits.{most_bytes}
 
 pub data Tree : Type 0 where
@@ -40,20 +39,6 @@ literal spelling None = Err Overflow
 abbrev pub joined_values : Value → Value → Result Value EvalFault
 joined_values x y = if nat_le (length (text_of_value x ++ text_of_value y)) most_bytes then Ok (Words (text_of_value x ++ text_of_value y)) else Err TooLong
 
--- The value of a tree, and what it leads to. Operands come from the left to the right; `&&`, `||` and a choice take only those that they need.
-abbrev pub value : Tree → (Value → Run) → Run
-value (Integer spelling) go = on_result (literal spelling (integer_of spelling)) go
-value (Plain text) go = go (Words text)
-value (Variable name) go = AsksVariable name (λ text. go (Words text))
-value (Element array index) go = value index (λ v. AsksElement array (text_of_value v) (λ text. go (Words text)))
-value (Command script) go = AsksCommand script (λ text. go (Words text))
-value (Joined a b) go = value a (λ x. value b (λ y. on_result (joined_values x y) go))
-value (Unary operator a) go = value a (λ x. on_result (unary_value operator x) go)
-value (Binary operator a b) go = value a (λ x. value b (λ y. on_result (binary_value operator x y) go))
-value (And a b) go = value a (λ x. on_truth x (λ truth. if truth then value b (λ y. on_truth y (λ other. go (truth_value other))) else go (truth_value false)))
-value (Or a b) go = value a (λ x. on_truth x (λ truth. if truth then go (truth_value true) else value b (λ y. on_truth y (λ other. go (truth_value other)))))
-value (Choice a b c) go = value a (λ x. on_truth x (λ truth. if truth then value b go else value c go))
-
 -- a value that is an integer is given in decimal
 abbrev pub final_by : Value → Option ℤ → List ℕ
 final_by v (Some n) = signed_decimal n
@@ -62,7 +47,3 @@ final_by v None = text_of_value v
 abbrev pub final_text : Value → List ℕ
 final_text (Number n) = signed_decimal n
 final_text (Words text) = final_by (Words text) (integer_of text)
-
--- all that the evaluation of a tree comes to
-abbrev pub evaluation : Tree → Run
-evaluation tree = value tree (λ v. Ends (Ok (final_text v)))

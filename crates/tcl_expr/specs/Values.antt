@@ -69,13 +69,14 @@ needed_number operator value = number_or_fault operator (number_of value)
 
 -- ── arithmetic ──
 
-abbrev pub held : Option ℤ → Result ℤ EvalFault
-held (Some n) = Ok n
-held None = Err Overflow
+-- an integer that 64 bits hold, or the fault
+abbrev pub or_overflow : Option ℤ → Result ℤ EvalFault
+or_overflow (Some n) = Ok n
+or_overflow None = Err Overflow
 
 abbrev pub quotient : ℤ → ℤ → Result ℤ EvalFault
 quotient a (pos zero) = Err DivideByZero
-quotient a b = held (in_64_bits (floor_quotient a b))
+quotient a b = or_overflow (in_64_bits (floor_quotient a b))
 
 abbrev pub remainder : ℤ → ℤ → Result ℤ EvalFault
 remainder a (pos zero) = Err DivideByZero
@@ -86,13 +87,13 @@ abbrev pub on_bits : (ℕ → ℕ → ℕ) → ℤ → ℤ → ℤ
 on_bits operation a b = cast_signed w64 (operation (cast_unsigned w64 a) (cast_unsigned w64 b))
 
 abbrev pub arithmetic : ArithmeticOperator → ℤ → ℤ → Result ℤ EvalFault
-arithmetic Multiply a b = held (in_64_bits (a *ℤ b))
+arithmetic Multiply a b = or_overflow (in_64_bits (a *ℤ b))
 arithmetic Divide a b = quotient a b
 arithmetic Remainder a b = remainder a b
-arithmetic Add a b = held (in_64_bits (a +ℤ b))
-arithmetic Subtract a b = held (in_64_bits (a -ℤ b))
-arithmetic ShiftLeft a b = held (shifted_left a b)
-arithmetic ShiftRight a b = held (shifted_right a b)
+arithmetic Add a b = or_overflow (in_64_bits (a +ℤ b))
+arithmetic Subtract a b = or_overflow (in_64_bits (a -ℤ b))
+arithmetic ShiftLeft a b = or_overflow (shifted_left a b)
+arithmetic ShiftRight a b = or_overflow (shifted_right a b)
 arithmetic BitAnd a b = Ok (on_bits bit_and a b)
 arithmetic BitXor a b = Ok (on_bits bit_xor a b)
 arithmetic BitOr a b = Ok (on_bits bit_or a b)
@@ -141,7 +142,7 @@ test text_test.NotIn a b = is_in a b >>= λ found. Ok (not found)
 
 abbrev pub unary_value : UnaryOperator → Value → Result Value EvalFault
 unary_value Not x = needed_truth x >>= λ truth. Ok (truth_value (not truth))
-unary_value Negate x = needed_number (number_operator.Unary Negate) x >>= λ n. held (in_64_bits (neg_ℤ n)) >>= λ m. Ok (Number m)
+unary_value Negate x = needed_number (number_operator.Unary Negate) x >>= λ n. or_overflow (in_64_bits (neg_ℤ n)) >>= λ m. Ok (Number m)
 unary_value Keep x = needed_number (number_operator.Unary Keep) x >>= λ n. Ok (Number n)
 unary_value Complement x = needed_number (number_operator.Unary Complement) x >>= λ n. Ok (Number (complement n))
 

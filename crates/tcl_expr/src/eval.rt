@@ -85,7 +85,8 @@ impl Eval {
     ghost use Rattle.tcl_expr.specs.Straight.{ComesTo};
     ghost use Rattle.tcl_expr.specs.Grammar.{IsTreeOf};
     ghost use Rattle.tcl_expr.specs.Reading.{compiled};
-    ghost use Rattle.tcl_expr.specs.Trees.{Tree, evaluation};
+    ghost use Rattle.tcl_expr.specs.Trees.{Tree};
+    ghost use Rattle.tcl_expr.specs.Run.{evaluation};
 
     /// The evaluation of an expression, from its beginning. It takes no memory.
     pub fn new(alloc: Global, expr: Expr) -> Eval

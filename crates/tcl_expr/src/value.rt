@@ -87,8 +87,8 @@ fn need_number(operator: NumberOperator, value: &Value) -> Result<i64, EvalFault
 }
 
 /// A result of arithmetic, which is refused where 64 bits don't hold it.
-fn held(number: Option<i64>) -> Result<i64, EvalFault>
-    ensures { result ≡ values.held number }
+fn or_overflow(number: Option<i64>) -> Result<i64, EvalFault>
+    ensures { result ≡ values.or_overflow number }
 {
     match number {
         Some(number) => Ok(number),
@@ -103,7 +103,7 @@ fn quotient(left: i64, right: i64) -> Result<i64, EvalFault>
     if right == 0 {
         return Err(EvalFault::DivideByZero);
     }
-    held(floor_quotient(left, right))
+    or_overflow(floor_quotient(left, right))
 }
 
 /// What a quotient leaves, on the divisor's side of 0.
@@ -121,13 +121,13 @@ pub fn arithmetic(operator: ArithmeticOperator, left: i64, right: i64) -> Result
     ensures { result ≡ values.arithmetic operator left right }
 {
     match operator {
-        ArithmeticOperator::Multiply => held(product(left, right)),
+        ArithmeticOperator::Multiply => or_overflow(product(left, right)),
         ArithmeticOperator::Divide => quotient(left, right),
         ArithmeticOperator::Remainder => remainder(left, right),
-        ArithmeticOperator::Add => held(sum(left, right)),
-        ArithmeticOperator::Subtract => held(difference(left, right)),
-        ArithmeticOperator::ShiftLeft => held(shifted_left(left, right)),
-        ArithmeticOperator::ShiftRight => held(shifted_right(left, right)),
+        ArithmeticOperator::Add => or_overflow(sum(left, right)),
+        ArithmeticOperator::Subtract => or_overflow(difference(left, right)),
+        ArithmeticOperator::ShiftLeft => or_overflow(shifted_left(left, right)),
+        ArithmeticOperator::ShiftRight => or_overflow(shifted_right(left, right)),
         ArithmeticOperator::BitAnd => Ok(left & right),
         ArithmeticOperator::BitXor => Ok(left ^ right),
         ArithmeticOperator::BitOr => Ok(left | right),
@@ -200,7 +200,7 @@ pub fn unary_value(alloc: Global, operator: UnaryOperator, value: Value) -> Resu
         }
         UnaryOperator::Negate => {
             let number = need_number(NumberOperator::Unary(operator), &value)?;
-            let number = held(negated(number))?;
+            let number = or_overflow(negated(number))?;
             Ok(Value::Number(number))
         }
         UnaryOperator::Keep => {

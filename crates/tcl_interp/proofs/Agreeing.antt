@@ -1,5 +1,5 @@
 -- Outside commands that mean the same where something holds of what is shown give scripts the same meaning there.
-use Rattle.std.proofs.Common.{◌≡◌, ℕ, zero, suc, Bool, true, false, cond, List, [], ◌∷◌, ◌++◌, length, nat_le, Option, Some, None, Result, Ok, Err, refl, ap, ◌∙◌}
+use Rattle.std.proofs.Common.{◌≡◌, ℕ, zero, suc, Bool, true, false, cond, List, [], ◌∷◌, ◌++◌, length, nat_le, Option, Some, None, Result, Ok, Err, refl, ap, sym, ◌∙◌}
 use Rattle.std.proofs.Math.Path.{fun_ext}
 use Rattle.tcl_words.specs.declared.script.Command.{Command}
 use Rattle.tcl_words.specs.declared.script.Word.{Word}
@@ -18,17 +18,19 @@ use Rattle.tcl_control.specs.declared.loops.Test.{Test}
 use Rattle.tcl_control.specs.declared.loops.Test.TheVariants.{Holds, Items}
 use Rattle.tcl_commands.specs.declared.branches.Branch.{Branch}
 use Rattle.tcl_commands.specs.declared.groups.Group.{Group}
-use Rattle.tcl_expr.specs.Run.{Run as Evaluating, AsksVariable, AsksElement, AsksCommand, Ends}
-use Rattle.tcl_expr.specs.Trees.{Tree, evaluation}
+use Rattle.tcl_expr.specs.Run.{Run as Evaluating, AsksVariable, AsksElement, AsksCommand, Ends, evaluation}
+use Rattle.tcl_expr.specs.Trees.{Tree}
 use Rattle.tcl_control.specs.Expressions.{expression_of, truth_of_text}
 use Rattle.tcl_control.specs.declared.loops.Loop.{Loop}
 use Rattle.tcl_control.specs.Control.{Called, call_of}
 use Rattle.tcl_control.specs.Source.{script_of}
 use Rattle.tcl_control.specs.Texts.{element_name}
 use Rattle.tcl_control.specs.Loops.{Tested, More, NoMore, Fails, items_tested}
+use Rattle.tcl_interp.proofs.TreeValues.{tree_runs}
 use Rattle.tcl_interp.specs.Evaluation.{State, Outcome, Ended, OutOfSteps, seen_level, and_then, on_normal, stepped, on_read, words_of, on_words, index_pieces, element_read, on_index, piece_meaning, pieces_meaning, index_depth, element_meaning, words_meaning, called, commands_meaning}
 use Rattle.tcl_interp.specs.Plans.{with_first_levels, others, levels_back, procedure_ended, caught, on_tested, loop_ended, after_body, after_next, run_at, next_iteration, test_meaning, iteration_meaning, iterations_meaning, loop_meaning, plan_meaning}
-use Rattle.tcl_interp.specs.Expressions.{with_truth, on_value, if_holds, run_meaning, tree_meaning, expression_meaning, condition_meaning, otherwise_meaning, choices_meaning}
+use Rattle.tcl_interp.specs.Expressions.{with_truth, on_value, if_holds, tree_meaning, expression_meaning, condition_meaning, otherwise_meaning, choices_meaning}
+use Rattle.tcl_interp.specs.Asked.{run_meaning}
 use Rattle.tcl_interp.specs.ScriptLaws.{AgreesRun, AgreesWhere, CommandsAgree, CommandsKeep, Kept, KeepsRun, ScriptsAgree, ScriptsAgreeWhere}
 use Rattle.tcl_interp.specs.Scripts.{CommandMeaning, by_call, call_meaning, on_parsed, scripts_by}
 use Rattle.tcl_interp.proofs.Kept.{KeepsElement, kept_call, kept_called, kept_element, kept_expression, kept_scripts, kept_words}
@@ -152,7 +154,7 @@ module _ {S : Type 0} (P : S → Type 0) where
     same_run (Ends result) state w = refl
 
     same_tree : (state : State S) (tree : Result Tree (List ℕ)) → P state.shows → tree_meaning run state tree ≡ tree_meaning other state tree
-    same_tree state (Ok tree) w = same_run (evaluation tree) state w
+    same_tree state (Ok tree) w = sym (tree_runs run tree state) ∙ same_run (evaluation tree) state w ∙ tree_runs other tree state
     same_tree state (Err text) w = refl
 
     same_expression : (text : List ℕ) (state : State S) → P state.shows → expression_meaning run text state ≡ expression_meaning other text state

@@ -1,5 +1,5 @@
 -- A property of what the object of the outside commands shows, which these commands keep, is kept by every script.
-use Rattle.std.proofs.Common.{ℕ, zero, suc, Bool, true, false, cond, List, [], ◌∷◌, ◌++◌, length, nat_le, Option, Some, None, Result, Ok, Err}
+use Rattle.std.proofs.Common.{ℕ, zero, suc, Bool, true, false, cond, List, [], ◌∷◌, ◌++◌, length, nat_le, Option, Some, None, Result, Ok, Err, subst}
 use Rattle.tcl_words.specs.declared.script.Command.{Command}
 use Rattle.tcl_words.specs.declared.script.Word.{Word}
 use Rattle.tcl_words.specs.declared.script.Piece.{Piece}
@@ -18,20 +18,22 @@ use Rattle.tcl_control.specs.declared.loops.Test.TheVariants.{Holds, Items}
 use Rattle.tcl_commands.specs.declared.branches.Branch.{Branch}
 use Rattle.tcl_commands.specs.declared.groups.Group.{Group}
 use Rattle.tcl_expr.specs.declared.fault.EvalFault.{EvalFault}
-use Rattle.tcl_expr.specs.Run.{Run as Evaluating, AsksVariable, AsksElement, AsksCommand, Ends}
-use Rattle.tcl_expr.specs.Trees.{Tree, evaluation}
+use Rattle.tcl_expr.specs.Run.{Run as Evaluating, AsksVariable, AsksElement, AsksCommand, Ends, evaluation}
+use Rattle.tcl_expr.specs.Trees.{Tree}
 use Rattle.tcl_control.specs.Expressions.{expression_of, truth_of_text}
 use Rattle.tcl_control.specs.declared.loops.Loop.{Loop}
 use Rattle.tcl_control.specs.Control.{Called, call_of}
 use Rattle.tcl_control.specs.Source.{script_of}
 use Rattle.tcl_control.specs.Texts.{element_name}
 use Rattle.tcl_control.specs.Loops.{Tested, More, NoMore, Fails, items_tested}
+use Rattle.tcl_interp.proofs.TreeValues.{tree_runs}
 use Rattle.tcl_interp.specs.declared.tasks.Act.{Act}
 use Rattle.tcl_interp.specs.declared.tasks.Act.TheVariants.{Done, Step, Run, Unknown}
 use Rattle.tcl_interp.specs.Outside.{Outside}
 use Rattle.tcl_interp.specs.Evaluation.{State, Outcome, Ended, OutOfSteps, seen_level, and_then, on_normal, stepped, on_read, words_of, on_words, index_pieces, element_read, on_index, piece_meaning, pieces_meaning, index_depth, element_meaning, words_meaning, called, commands_meaning}
 use Rattle.tcl_interp.specs.Plans.{with_first_levels, others, levels_back, procedure_ended, caught, on_tested, loop_ended, after_body, after_next, run_at, next_iteration, test_meaning, iteration_meaning, iterations_meaning, loop_meaning, plan_meaning}
-use Rattle.tcl_interp.specs.Expressions.{value_ended, with_truth, on_value, if_holds, run_meaning, tree_meaning, expression_meaning, condition_meaning, otherwise_meaning, choices_meaning}
+use Rattle.tcl_interp.specs.Expressions.{with_truth, on_value, if_holds, tree_meaning, expression_meaning, condition_meaning, otherwise_meaning, choices_meaning}
+use Rattle.tcl_interp.specs.Asked.{value_ended, run_meaning}
 use Rattle.tcl_interp.specs.Acts.{on_act, resumed, after_step, task_meaning, act_meaning, script_meaning, outside_meaning}
 pub use Rattle.tcl_interp.specs.ScriptLaws.{Kept, KeepsRun}
 use Rattle.tcl_interp.specs.ScriptLaws.{CommandsKeep, KeepsCommand}
@@ -161,7 +163,7 @@ module _ {S : Type 0} (P : S → Type 0) where
     kept_run (Ends result) state w = kept_value_ended state result w
 
     kept_tree : (state : State S) (tree : Result Tree (List ℕ)) → P state.shows → Kept P (tree_meaning run state tree)
-    kept_tree state (Ok tree) w = kept_run (evaluation tree) state w
+    kept_tree state (Ok tree) w = subst (λ (o : Outcome S). Kept P o) (tree_runs run tree state) (kept_run (evaluation tree) state w)
     kept_tree state (Err text) w = w
 
     pub kept_expression : (text : List ℕ) (state : State S) → P state.shows → Kept P (expression_meaning run text state)

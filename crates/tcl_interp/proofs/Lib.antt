@@ -15,6 +15,7 @@ pub mod Settled
 pub mod SimpleLemmas
 pub mod Stepping
 pub mod Straight
+pub mod TreeValues
 pub mod Unrolled
 pub mod Weights
 pub mod WordLemmas

@@ -3,7 +3,8 @@ use Rattle.std.proofs.Common.{◌≡◌, ℕ, zero, suc, ◌≤◌, ◌<◌, Lis
 use Rattle.tcl_control.specs.declared.loops.Loop.{Loop}
 use Rattle.tcl_interp.specs.Evaluation.{State, Outcome, Ended, OutOfSteps}
 use Rattle.tcl_interp.specs.Plans.{iterations_meaning, loop_meaning}
-use Rattle.tcl_interp.specs.LoopLaws.{TakesNoStepsBack, goes_round, LoopsGoOn, OnlyLoop, ScriptsTakeNoStepsBack}
+use Rattle.tcl_interp.specs.LoopLaws.{TakesNoStepsBack, goes_round, LoopsGoOn, OnlyLoop}
+use Rattle.tcl_interp.specs.StepsBack.{ScriptsTakeNoStepsBack}
 use Rattle.tcl_interp.proofs.Bounds.{Bounded, Within, stepped_same, stepped_none, test_same, iteration_same, iterations_same, within_script}
 
 module _ {S : Type 0} (run : List ℕ → State S → Outcome S) (none_back : TakesNoStepsBack run) where

@@ -26,9 +26,11 @@ use Rattle.tcl_control.specs.Source.{script_of}
 use Rattle.tcl_control.proofs.ExpressionLemmas.{expression_walk}
 use Rattle.tcl_control.specs.Texts.{limit_text, element_name}
 use Rattle.tcl_expr.proofs.CompileLemmas.{execute_whole}
+use Rattle.tcl_interp.proofs.TreeValues.{tree_runs}
 use Rattle.tcl_interp.specs.Outside.{Outside}
 use Rattle.tcl_interp.specs.Evaluation.{State, Outcome, Ended, OutOfSteps, seen_level, and_then, on_normal, with_step, on_read, with_joined, words_of, on_words, index_pieces, element_read, on_index, pieces_meaning, index_depth, element_meaning}
-use Rattle.tcl_interp.specs.Expressions.{with_truth, on_value, if_holds, run_meaning, tree_meaning, expression_meaning, otherwise_meaning, choices_meaning}
+use Rattle.tcl_interp.specs.Expressions.{with_truth, on_value, if_holds, tree_meaning, expression_meaning, otherwise_meaning, choices_meaning}
+use Rattle.tcl_interp.specs.Asked.{run_meaning}
 use Rattle.tcl_interp.specs.Plans.{loop_ended, after_body, after_next, next_iteration}
 use Rattle.tcl_interp.specs.Acts.{script_meaning, outside_meaning}
 use Rattle.tcl_interp.specs.Scripts.{out_of_global, at_global, call_meaning, on_parsed}
@@ -206,7 +208,9 @@ module _ {S K : Type 0} (outside : Outside S K) where
 
   begun_same : (room : ℕ) (text : List ℕ) (waits : List (Waiting K)) (state : State S) (tree : Result Tree ExprFault)
       → and_then (tree_meaning (run_in room) state (tree_or_text text tree)) (waits_meaning outside waits) ≡ finish_moved (moved (begun_as room (evaluation_begun text (compiled_by tree))) waits) state
-  begun_same room text waits state (Ok tree) = ap (λ r. and_then (run_meaning (run_in room) r state) (waits_meaning outside waits)) (sym (execute_whole tree))
+  begun_same room text waits state (Ok tree) =
+      ap (λ o. and_then o (waits_meaning outside waits)) (sym (tree_runs (run_in room) tree state))
+      ∙ ap (λ r. and_then (run_meaning (run_in room) r state) (waits_meaning outside waits)) (sym (execute_whole tree))
   begun_same room text waits state (Err fault) = refl
 
   pub expression_same : (room : ℕ) (text : List ℕ) (waits : List (Waiting K)) (state : State S) → and_then (expression_meaning (run_in room) text state) (waits_meaning outside waits) ≡ finish_moved (moved (expression_begins room text) waits) state

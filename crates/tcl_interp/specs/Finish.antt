@@ -10,7 +10,8 @@ use Rattle.tcl_commands.specs.declared.branches.Branch.{Branch}
 use Rattle.tcl_expr.specs.Resuming.{Resumption, evaluation_told}
 use Rattle.tcl_interp.specs.Outside.{Outside}
 use Rattle.tcl_interp.specs.Evaluation.{State, Outcome, Ended, OutOfSteps, and_then, on_normal, with_step, with_joined, words_of, on_words, pieces_meaning, element_read, element_meaning, word_meaning, words_meaning, called, commands_meaning}
-use Rattle.tcl_interp.specs.Expressions.{on_value, if_holds, run_meaning, otherwise_meaning, choices_meaning}
+use Rattle.tcl_interp.specs.Expressions.{on_value, if_holds, otherwise_meaning, choices_meaning}
+use Rattle.tcl_interp.specs.Asked.{run_meaning}
 use Rattle.tcl_interp.specs.Plans.{levels_back, procedure_ended, caught, loop_ended, after_body, after_next, next_iteration, iteration_meaning, loop_meaning}
 use Rattle.tcl_interp.specs.Acts.{script_meaning, task_meaning, after_step, outside_meaning}
 use Rattle.tcl_interp.specs.Scripts.{call_meaning, out_of_global, at_global}

@@ -1,6 +1,7 @@
 -- What the contracts cite.
 pub mod Acts
 pub mod Advances
+pub mod Asked
 pub mod Course
 pub mod Evaluation
 pub mod Expressions
@@ -23,4 +24,5 @@ pub mod ScriptLaws
 pub mod Scripts
 pub mod Simple
 pub mod Steps
+pub mod StepsBack
 pub mod Tasks

@@ -2,10 +2,8 @@
 use Rattle.std.specs.Prelude.{◌≡◌, ℕ, ◌≤◌, List}
 use Rattle.tcl_control.specs.declared.code.Code.{Code}
 use Rattle.tcl_control.specs.declared.loops.Loop.{Loop}
-use Rattle.tcl_interp.specs.Outside.{Outside}
 use Rattle.tcl_interp.specs.Evaluation.{State, Outcome, Ended, with_step}
 use Rattle.tcl_interp.specs.Plans.{test_meaning, iteration_meaning, loop_meaning}
-use Rattle.tcl_interp.specs.Acts.{script_meaning}
 
 -- Where a script has ended, no more steps are left than it was begun with.
 abbrev pub TakesNoStepsBack : {S : Type 0} → (List ℕ → State S → Outcome S) → Type 0
@@ -26,7 +24,3 @@ abbrev pub OnlyLoop : Type 0 → Type 0
 OnlyLoop S = (run : List ℕ → State S → Outcome S) → TakesNoStepsBack run
     → (other : Loop → State S → Outcome S) → ((looping : Loop) (state : State S) → other looping state ≡ goes_round run other looping state)
     → (looping : Loop) (state : State S) → other looping state ≡ loop_meaning run looping state
-
--- Scripts are run so, whatever serves their outside commands.
-abbrev pub ScriptsTakeNoStepsBack : Type 0 → Type 0 → Type 0
-ScriptsTakeNoStepsBack S K = (outside : Outside S K) (room : ℕ) → TakesNoStepsBack (script_meaning outside room)

@@ -5,7 +5,8 @@ use Rattle.tcl_expr.specs.declared.ask.Ask.{Ask}
 use Rattle.tcl_expr.specs.declared.fault.EvalFault.{EvalFault}
 use Rattle.tcl_expr.specs.Resuming.{Resumption, evaluation_told, answered}
 use Rattle.tcl_expr.specs.Machine.{AsksBy}
-use Rattle.tcl_expr.specs.Run.{Run, Ends as RunEnds, asks}
+use Rattle.tcl_expr.specs.Run.{Run, Ends as RunEnds}
+use Rattle.tcl_expr.specs.Steps.{asks}
 use Rattle.tcl_control.specs.declared.code.Code.{Code}
 use Rattle.tcl_control.specs.declared.context.Context.{Context}
 use Rattle.tcl_control.specs.Levels.{here}

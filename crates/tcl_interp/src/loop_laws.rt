@@ -1,5 +1,6 @@
 //! What a loop is, without a count of how often it may go round. The functions do nothing: their contracts are the laws.
-ghost use Rattle.tcl_interp.specs.LoopLaws.{LoopsGoOn, OnlyLoop, ScriptsTakeNoStepsBack};
+ghost use Rattle.tcl_interp.specs.LoopLaws.{LoopsGoOn, OnlyLoop};
+ghost use Rattle.tcl_interp.specs.StepsBack.{ScriptsTakeNoStepsBack};
 
 /// A loop is a step, its test, its body with what `for` runs behind it, and the loop again with what is left to be tested. Nothing else meets that
 /// equation. How scripts are run is given; it takes no steps back.

@@ -1,7 +1,7 @@
 //! Changes of widgets, with the variables that they ask for.
 ghost use Rattle.std.specs.Prelude.{◌≡◌, IfOk, OnOk};
 ghost use Rattle.std.specs.Option.{option_copied};
-ghost use Rattle.tcl_commands.specs.Done.{Steps};
+ghost use Rattle.tcl_commands.specs.Refusals.{Steps};
 ghost use Rattle.tcl_vars.specs.Store.{variable_in};
 ghost use Rattle.tk_screen.specs.Changes.{changed, is_absent, wrote, wrote_one};
 ghost use Rattle.tk_screen.specs.Shared.{own_of, LeavesOthers};

@@ -1,7 +1,7 @@
 -- What is added are the values joined.
 use Rattle.std.proofs.Common.{◌++◌, ap, ◌∙◌, subst}
 use Rattle.std.specs.List.{concat}
-use Rattle.tcl_commands.specs.Done.{Does}
+use Rattle.tcl_commands.specs.Refusals.{Does}
 use Rattle.tcl_commands.proofs.EditLemmas.{appends}
 use Rattle.tcl_commands.proofs.values.append.Goals as goal
 

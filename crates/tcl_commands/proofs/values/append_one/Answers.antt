@@ -1,7 +1,7 @@
 -- What is added is the value.
 use Rattle.std.proofs.Common.{[], ◌∷◌, ◌∙◌, sym, subst}
 use Rattle.std.proofs.lemmas.List.{append-nil}
-use Rattle.tcl_commands.specs.Done.{Does}
+use Rattle.tcl_commands.specs.Refusals.{Does}
 use Rattle.tcl_commands.proofs.EditLemmas.{appends}
 use Rattle.tcl_commands.proofs.values.append_one.Goals as goal
 

@@ -1,6 +1,6 @@
 -- What is added are the values as items.
 use Rattle.std.proofs.Common.{refl, subst, arith}
-use Rattle.tcl_commands.specs.Done.{Does}
+use Rattle.tcl_commands.specs.Refusals.{Does}
 use Rattle.tcl_commands.proofs.EditLemmas.{lappends}
 use Rattle.tcl_commands.proofs.values.lappend.Goals as goal
 

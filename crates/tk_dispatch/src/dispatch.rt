@@ -12,10 +12,13 @@ use std::alloc::{AllocError, Global};
 use tcl_text::message::limit;
 use tcl_text::{Text, TextFault, TextList};
 use tk_base::Win;
-use tk_patterns::{BindTable, History};
+use tk_patterns::{BindTable, History, matching_pairs};
 use tk_sequences::Event;
 use tk_tree::Windows;
 use tk_virtual::{VirtualPairs, VirtualTable};
+
+/// So many tags each look at the sequences of virtual events by themselves.
+const FEW_TAGS: usize = 4;
 
 /// What the choice for an event looks at.
 #[derive(Clone, Copy)]
@@ -48,15 +51,43 @@ pub fn scripts_for(
     let Some(window) = windows.window(win) else {
         return Ok(Ok(TextList::new(alloc)));
     };
+    let tags = window.tags.as_slice();
+    let virtuals = virtuals.of(win.owner);
     let choice = Choice {
         windows,
         bindings,
         owner: win.owner,
-        virtuals: virtuals.of(win.owner),
+        virtuals,
         event,
         history,
     };
-    scripts_of(alloc, &choice, window.tags.as_slice())
+    if tags.len() > FEW_TAGS {
+        scripts_of_many(alloc, &choice, tags)
+    } else {
+        scripts_of(alloc, &choice, tags)
+    }
+}
+
+/// The scripts of many tags: which sequences of virtual events match is looked at once, and not for each tag.
+fn scripts_of_many(
+    alloc: Global,
+    choice: &Choice<'_>,
+    tags: &[Text],
+) -> Result<Result<TextList, Text>, AllocError>
+    ensures { IfOk result (λ chosen. chosen ≡ scripts_of (windows_of.own_of choice.now.owner choice.now.windows.now)
+        (meanings_of choice.now.virtuals.now) (bindings_of.own_of choice.now.owner choice.now.bindings.now)
+        choice.now.history.now choice.now.event.now tags.now) }
+{
+    let virtuals = matching_pairs(alloc, choice.virtuals, choice.event, choice.history)?;
+    let choice = Choice {
+        windows: choice.windows,
+        bindings: choice.bindings,
+        owner: choice.owner,
+        virtuals: &virtuals,
+        event: choice.event,
+        history: choice.history,
+    };
+    scripts_of(alloc, &choice, tags)
 }
 
 /// The scripts of some tags.

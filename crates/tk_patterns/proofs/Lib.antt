@@ -6,6 +6,7 @@ pub mod FiledLemmas
 pub mod FilingLemmas
 pub mod KeptLemmas
 pub mod MatchLemmas
+pub mod MatchingLemmas
 pub mod OrderLemmas
 pub mod PairLemmas
 pub mod PlaceLemmas

@@ -7,6 +7,7 @@ pub mod Fits
 pub mod History
 pub mod Inputs
 pub mod Matches
+pub mod Matching
 pub mod Named
 pub mod Own
 pub mod OwnSteps

@@ -1,6 +1,6 @@
 //! Pairs in order, found by their names.
 ghost use Rattle.std.specs.Prelude.{◌≡◌, ◌-◌, false, [], ◌∷◌, ◌++◌, length, take, filter, find, OnOk, OnErr};
-ghost use Rattle.std.specs.List.{list_any};
+ghost use Rattle.std.specs.List.{IsDistinct, list_any};
 ghost use Rattle.std.specs.Option.{option_to_list};
 ghost use Rattle.indexmap.specs.IndexSet.{remove_key};
 ghost use Rattle.tk_virtual.specs.Virtual.{has_name, is_same, without_name, without_pair};
@@ -44,9 +44,10 @@ impl PairList {
         }
     }
 
-    /// All of them, in order.
+    /// All of them, in order. None is there twice.
     pub fn all(&self) -> &[Pair]
-        ensures { result.now ≡ self.now }
+        ensures pairs { result.now ≡ self.now }
+        ensures once { IsDistinct is_same self.now }
     {
         self.pairs.as_slice()
     }

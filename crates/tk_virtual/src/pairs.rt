@@ -1,6 +1,6 @@
 //! The pairs of one application.
 ghost use Rattle.std.specs.Prelude.{◌≡◌, ◌≢◌, ℕ, ◌-◌, false, [], ◌∷◌, ◌++◌, length, take, map, filter, IfOk, IfErr, OnOk, OnErr, Ok, Err};
-ghost use Rattle.std.specs.List.{list_any};
+ghost use Rattle.std.specs.List.{IsDistinct, list_any};
 ghost use Rattle.std.specs.Str.{bytes_eq};
 ghost use Rattle.tk_virtual.specs.Classes.{is_of_class};
 ghost use Rattle.tk_virtual.specs.Virtual.{added, all_added, has_name, is_same, names_of, with_name, with_pair, without_name, without_pair, written_names, written_of};
@@ -52,9 +52,10 @@ impl VirtualPairs {
         }
     }
 
-    /// All pairs, in the order in which they were added.
+    /// All pairs, in the order in which they were added. None is there twice.
     pub fn all(&self) -> &[Pair]
-        ensures { result.now ≡ self.now }
+        ensures pairs { result.now ≡ self.now }
+        ensures once { IsDistinct is_same self.now }
     {
         self.pairs.all()
     }
@@ -160,6 +161,16 @@ impl VirtualPairs {
                 Err(refused)
             }
         }
+    }
+
+    /// Adds a copy of a pair that isn't there, the last.
+    pub fn push_copy(&mut self, alloc: Global, pair: &Pair) -> Result<(), AllocError>
+        requires { list_any (is_same pair.now) self.old ≡ false }
+        ensures ok { OnOk result (self.new ≡ self.old ++ pair.now ∷ []) }
+        ensures err { OnErr result (self.new ≡ self.old) }
+    {
+        let pair = pair.copy(alloc)?;
+        self.push(alloc, pair)
     }
 
     /// Takes out the pairs behind the first so many.

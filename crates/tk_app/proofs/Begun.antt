@@ -30,7 +30,7 @@ use Rattle.tk_commands.specs.Screen.{screen_command_named}
 use Rattle.tk_window_commands.specs.Commands.{window_command_named}
 use Rattle.tk_app.specs.Begun.{DestroyBegins, GenerateBegins, IdleTasksAre, InvokeRuns, IsNoAlias, SelectBegins, UpdateBegins, UpdateIs, shown_with}
 use Rattle.tk_app.specs.Commands.{Update, command_meaning, meant_by, outcome_meaning, panel_meaning, scripts_in}
-use Rattle.tk_app.specs.Dispatch.{with_panel_but_moment}
+use Rattle.tk_app.specs.Dispatch.{with_whole_panel}
 use Rattle.tk_app.specs.Seen.{Seen}
 use Rattle.tk_app.proofs.ByUpdate.{only_update}
 
@@ -41,8 +41,8 @@ module _ (update : Update) (room : ℕ) (called name : List ℕ) (words : List (
 
   -- and what it comes to
   came_to : (came : Done) → panel_command (name ∷ words) state.shows.panel state.store ≡ came
-      → command_meaning update (scripts_in update room) called name words state ≡ outcome_meaning update (scripts_in update room) called came.outcome (record (with_panel_but_moment came.panel state) { store = came.store })
-  came_to came is = unserved ∙ ap (λ (c : Done). outcome_meaning update (scripts_in update room) called c.outcome (record (with_panel_but_moment c.panel state) { store = c.store })) is
+      → command_meaning update (scripts_in update room) called name words state ≡ outcome_meaning update (scripts_in update room) called came.outcome (record (with_whole_panel came.panel state) { store = came.store })
+  came_to came is = unserved ∙ ap (λ (c : Done). outcome_meaning update (scripts_in update room) called c.outcome (record (with_whole_panel c.panel state) { store = c.store })) is
 
 pub update_begins : UpdateBegins
 unfolding command_named command_done moment_command_done moment_command_named update_words screen_command_named window_command_named
@@ -61,9 +61,7 @@ unfolding command_named command_done moment_command_done moment_command_named sc
 destroy_begins update room called paths state none = unserved update room called (codes "destroy") paths state none
 
 pub invoke_runs : InvokeRuns
-invoke_runs update room called name words script panel store state none is same =
-    came_to update room called name words state none (done panel store (Acts (Script script))) is
-    ∙ ap (λ m. outcome_meaning update (scripts_in update room) called (Acts (Script script)) (shown_with (record panel { moment = m }) store state)) (sym same)
+invoke_runs update room called name words script panel store state none is = came_to update room called name words state none (done panel store (Acts (Script script))) is
 
 module _ (words : List (List ℕ)) (panel : Panel) (store : Store) (generated : Generated)
     (is : generate_words words panel.input.focus (length panel.queue) panel.moment panel.windowing.tree ≡ Ok generated) (now : generated.when ≡ Now) where

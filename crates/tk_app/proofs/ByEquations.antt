@@ -5,12 +5,13 @@ use Rattle.tk_panel.specs.Start.{without_event}
 use Rattle.tk_commands.specs.Course.{settling as settling_to}
 use Rattle.tk_app.specs.Commands.{command_meaning, scripts_in}
 use Rattle.tk_app.specs.Destroy.{destroy_meaning}
-use Rattle.tk_app.specs.Dispatch.{RunsScripts, dispatch_meaning}
+use Rattle.tk_app.specs.Dispatch.{RunsScripts, dispatch_meaning, followed_by}
 use Rattle.tk_app.specs.Items.{idle_tasks_meaning, item_meaning, settle_item}
 use Rattle.tk_app.specs.JobLaws.{CommandsAreCalled, Destroys, Dispatches, ScriptsAreRun, UpdateGoes, UpdatesIdleTasks}
 use Rattle.tk_app.specs.Jobs.{meaning, meaning_by}
 use Rattle.tk_app.specs.Outside.{run_in}
 use Rattle.tk_app.specs.SettleJob.{Settles, Updates, settle_meaning, update_meaning}
+use Rattle.tk_app.proofs.Behind.{destroy_is, idle_tasks_are, item_is, settle_item_is, then_dispatched}
 use Rattle.tk_app.proofs.Commands.{command_called, scripts_run}
 use Rattle.tk_app.proofs.Equations.{destroy_goes, dispatch_goes, idle_tasks_go, settle_goes, update_goes}
 
@@ -27,13 +28,15 @@ commands_are_called room called name words state =
 
 pub dispatches : Dispatches
 dispatches room event rest state =
-    dispatch_goes room event rest state ∙ ap (λ (run : RunsScripts). dispatch_meaning run event (meaning room (without_event rest)) state) (sym (scripts_run room))
+    dispatch_goes room event rest state
+    ∙ (then_dispatched (run_in room) event (meaning room (without_event rest)) state).0
+    ∙ ap (λ (run : RunsScripts). followed_by (dispatch_meaning run event state) (meaning room (without_event rest))) (sym (scripts_run room))
 
 pub destroys_all : Destroys
-destroys_all room paths state = destroy_goes room paths state ∙ ap (λ (run : RunsScripts). destroy_meaning run paths state) (sym (scripts_run room))
+destroys_all room paths state = destroy_goes room paths state ∙ destroy_is (run_in room) paths state ∙ ap (λ (run : RunsScripts). destroy_meaning run paths state) (sym (scripts_run room))
 
 pub updates_idle : UpdatesIdleTasks
-updates_idle room state = idle_tasks_go room state ∙ ap (λ (run : RunsScripts). idle_tasks_meaning run state) (sym (scripts_run room))
+updates_idle room state = idle_tasks_go room state ∙ idle_tasks_are (run_in room) state ∙ ap (λ (run : RunsScripts). idle_tasks_meaning run state) (sym (scripts_run room))
 
 pub update_job : UpdateGoes
 unfolding update_meaning
@@ -41,7 +44,8 @@ update_job room state = ap (λ (run : RunsScripts). meaning_by run (settling_to 
 
 pub updates : Updates
 unfolding update_meaning
-updates room state sound = by_run (λ (run : RunsScripts). meaning_by run (settling_to Update) state ≡ item_meaning run (meaning_by run (settling_to Update)) state) room (update_goes room state sound)
+updates room state sound = by_run (λ (run : RunsScripts). meaning_by run (settling_to Update) state ≡ item_meaning run (meaning_by run (settling_to Update)) state) room
+    (update_goes room state sound ∙ item_is (run_in room) (meaning_by (run_in room) (settling_to Update)) state)
 
 pub settles_all : Settles
-settles_all state sound = settle_goes state sound ∙ ap (λ (run : RunsScripts). settle_item run settle_meaning state) (sym (scripts_run 200))
+settles_all state sound = settle_goes state sound ∙ settle_item_is (run_in 200) settle_meaning state ∙ ap (λ (run : RunsScripts). settle_item run settle_meaning state) (sym (scripts_run 200))

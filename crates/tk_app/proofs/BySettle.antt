@@ -11,13 +11,14 @@ use Rattle.tk_app.specs.declared.state.AppState.{AppState}
 use Rattle.tk_app.specs.declared.state.AppState.TheVariants.{Running, Exhausted, Closed}
 use Rattle.tk_app.specs.Application.{Application}
 use Rattle.tk_app.specs.Commands.{Update, scripts_in}
-use Rattle.tk_app.specs.Dispatch.{Continuation, global_meaning, with_panel_but_moment}
+use Rattle.tk_app.specs.Dispatch.{Action, global_meaning, with_whole_panel}
 use Rattle.tk_app.specs.Moments.{after_outcome, settled_as, settled_by, started_by, state_at}
 use Rattle.tk_app.specs.MomentsByJob.{settled, started}
 use Rattle.tk_app.specs.Seen.{Meaning, Seen}
 use Rattle.tk_app.specs.Settle.{IsSettle, IsSoundIn, IsUpdate, after_script, start_meaning}
 use Rattle.tk_app.specs.SettleJob.{settle_meaning, update_meaning}
-use Rattle.tk_app.specs.Sound.{BySettle, EndsSound, RunsSound}
+use Rattle.tk_app.specs.Sound.{EndsSound, RunsSound}
+use Rattle.tk_app.specs.SoundByJob.{BySettle}
 use Rattle.tk_app.proofs.ByEquations.{updates}
 use Rattle.tk_app.proofs.ByUpdate.{keeps_sound, one_update, only_settle}
 use Rattle.tk_app.proofs.Trees.{end_screen}
@@ -28,7 +29,7 @@ then_same : (o : Outcome Seen) (f g : State Seen → Code → List ℕ → Outco
 then_same (Ended state code text) f g sound same = same state code text sound
 then_same (OutOfSteps state) f g sound same = refl
 
-module _ (update : Update) (is_update : IsUpdate update) (settle : Continuation) (meets : IsSettle update settle) where
+module _ (update : Update) (is_update : IsUpdate update) (settle : Action) (meets : IsSettle update settle) where
   same : (state : State Seen) → IsSoundIn state → settle_meaning state ≡ settle state
   same state sound = sym (only_settle update is_update settle meets state sound)
 
@@ -40,7 +41,7 @@ module _ (update : Update) (is_update : IsUpdate update) (settle : Continuation)
   start_same script state sound =
       then_same (global_meaning (scripts_in update_meaning 200) script state) (after_script settle_meaning) (after_script settle) ((keeps_sound 200 state sound).0 update_meaning updates script)
       (λ left code text kept.
-      same (with_panel_but_moment (with_end (out_of_global code) text left.shows.panel) left)
+      same (with_whole_panel (with_end (out_of_global code) text left.shows.panel) left)
       (subst (λ (windowing : Windowing). IsSound windowing.tree) (sym (end_screen (out_of_global code) text left.shows.panel)) kept))
       ∙ ap (λ (o : Outcome Seen). and_then o (after_script settle)) (script_same script state sound)
 

@@ -4,6 +4,7 @@ use Rattle.std.specs.Prelude.{Ok, Err, option_map}
 use Rattle.tcl_vars.specs.Store.{Store}
 use Rattle.tcl_control.specs.declared.code.Code.{Code}
 use Rattle.tcl_control.specs.declared.code.Code.TheVariants.{Normal, Error, Return, Break, Continue}
+use Rattle.tcl_control.specs.Texts.{unknown_command}
 use Rattle.tcl_interp.specs.Acts.{act_meaning as by_act, outside_meaning, task_meaning, told_state}
 use Rattle.tcl_interp.specs.declared.job.Task.{Task}
 use Rattle.tcl_interp.specs.declared.job.Task.TheVariants.{Invoked}
@@ -31,12 +32,13 @@ use Rattle.tk_commands.specs.declared.outcome.CommandOutcome.{CommandOutcome}
 use Rattle.tk_commands.specs.declared.outcome.CommandOutcome.TheVariants as outcome
 use Rattle.tk_commands.specs.Outcomes.{Done}
 use Rattle.tk_app.specs.Begun.{shown_with}
-use Rattle.tk_app.specs.Commands.{begun_meaning, command_meaning, ends_there, meant_by, outcome_meaning, scripts_in}
-use Rattle.tk_app.specs.Dispatch.{global_meaning, with_panel_but_moment, with_whole_panel}
+use Rattle.tk_app.specs.Commands.{act_meaning, begun_meaning, command_meaning, meant_by, outcome_meaning, scripts_in}
+use Rattle.tk_app.specs.Dispatch.{ends_there, global_meaning, with_whole_panel}
 use Rattle.tk_app.specs.Jobs.{meaning}
 use Rattle.tk_app.specs.Outside.{act_of as alias_answer, by_panel, called_as, outside, run_in}
 use Rattle.tk_app.specs.Seen.{Meaning, Seen, served_by}
 use Rattle.tk_app.specs.SettleJob.{update_meaning}
+use Rattle.tk_app.proofs.Behind.{destroy_is, dispatch_is, idle_tasks_are}
 use Rattle.tk_app.proofs.CommandMoments.{command_moment}
 use Rattle.tk_app.proofs.Equations.{bound_same, destroy_goes, dispatch_goes, idle_tasks_go}
 use Rattle.tk_app.proofs.Nexts.{goes_by_next}
@@ -65,13 +67,14 @@ module _ (room : ℕ) (called : List ℕ) where
       → by_told state (by_panel state.shows (goes_on begun panel store)) ≡ begun_meaning update_meaning (run_in room) begun (shown_with panel store state)
   unfolding update_meaning
   begun_goes Updates panel store state same = job_goes (settling_to Update) panel store state same
-  begun_goes UpdatesIdleTasks panel store state same = job_goes (settling_to IdleTasks) panel store state same ∙ idle_tasks_go room (shown_with panel store state)
-  begun_goes (Destroys paths) panel store state same = job_goes (destroying paths) panel store state same ∙ destroy_goes room paths (shown_with panel store state)
+  begun_goes UpdatesIdleTasks panel store state same = job_goes (settling_to IdleTasks) panel store state same ∙ idle_tasks_go room (shown_with panel store state) ∙ idle_tasks_are (run_in room) (shown_with panel store state)
+  begun_goes (Destroys paths) panel store state same = job_goes (destroying paths) panel store state same ∙ destroy_goes room paths (shown_with panel store state) ∙ destroy_is (run_in room) paths (shown_with panel store state)
   begun_goes (Dispatches event) panel store state same =
       let there : Panel × List (List ℕ) = chosen event panel in
       job_goes (event_job there.1 NoRest) there.0 store state (chosen_moment event panel ∙ same)
       ∙ dispatch_goes room event NoRest (shown_with panel store state)
       ∙ bound_same room there.1 (meaning room (without_event NoRest)) ends_there (λ left. goes_by_next room (without_event NoRest) left) (with_whole_panel there.0 (shown_with panel store state))
+      ∙ dispatch_is (run_in room) event (shown_with panel store state)
 
   -- ── commands ──
 
@@ -89,15 +92,14 @@ module _ (room : ℕ) (called : List ℕ) where
   ends_invoked (OutOfSteps left) = refl
 
   outcome_goes : (came : CommandOutcome) (panel : Panel) (store : Store) (state : State Seen) → panel.moment ≡ state.shows.panel.moment
-      → by_told state (by_panel state.shows (outcome_told came panel store)) ≡ outcome_meaning update_meaning (run_in room) called came (record (with_panel_but_moment panel state) { store = store })
-  outcome_goes (outcome.Acts (widget.Answer text)) panel store state same = refl
-  outcome_goes (outcome.Acts (widget.Fault text)) panel store state same = refl
+      → by_told state (by_panel state.shows (outcome_told came panel store)) ≡ outcome_meaning update_meaning (run_in room) called came (shown_with panel store state)
+  outcome_goes (outcome.Acts (widget.Answer text)) panel store state same = ap (λ m. Ended (shown_with (record panel { moment = m }) store state) Normal text) (sym same)
+  outcome_goes (outcome.Acts (widget.Fault text)) panel store state same = ap (λ m. Ended (shown_with (record panel { moment = m }) store state) Error text) (sym same)
   outcome_goes (outcome.Acts (widget.Script script)) panel store state same =
-      ends_invoked (global_meaning (run_in room) script (record (with_panel_but_moment panel state) { store = store }))
-  outcome_goes (outcome.Begins begun) panel store state same =
-      begun_goes begun panel store state same
-      ∙ ap (λ m. begun_meaning update_meaning (run_in room) begun (shown_with (record panel { moment = m }) store state)) same
-  outcome_goes outcome.Unknown panel store state same = refl
+      ends_invoked (global_meaning (run_in room) script (shown_with (record panel { moment = state.shows.panel.moment }) store state))
+      ∙ ap (λ m. act_meaning (run_in room) (widget.Script script) (shown_with (record panel { moment = m }) store state)) (sym same)
+  outcome_goes (outcome.Begins begun) panel store state same = begun_goes begun panel store state same
+  outcome_goes outcome.Unknown panel store state same = ap (λ m. Ended (shown_with (record panel { moment = m }) store state) Error (unknown_command called)) (sym same)
 
   pub command_called : (name : List ℕ) (words : List (List ℕ)) (state : State Seen)
       → outside_meaning outside (run_in room) called name words state ≡ command_meaning update_meaning (run_in room) called name words state

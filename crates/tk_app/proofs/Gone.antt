@@ -23,13 +23,14 @@ use Rattle.tk_panel.specs.Choice.{chosen}
 use Rattle.tk_panel.specs.Destroy.{all_dying, destroy_event, doomed_by, marked, removed, removed_at}
 use Rattle.tk_panel.specs.Panel.{Panel}
 use Rattle.tk_panel.specs.Reports.{with_line}
-use Rattle.tk_app.specs.Destroy.{destroy_dispatched, destroy_meaning, windows_destroyed}
+use Rattle.tk_app.specs.Behind.{after_bound_behind, bound_behind, destroy_behind, destroyed_behind, windows_behind}
 use Rattle.tk_app.specs.Commands.{scripts_in}
-use Rattle.tk_app.specs.Dispatch.{Continuation, after_bound, global_meaning, bound_meaning, with_whole_panel}
+use Rattle.tk_app.specs.Dispatch.{Action, global_meaning, with_whole_panel}
 use Rattle.tk_app.specs.Gone.{AreGone, DestroysAll, LeavesNone}
 use Rattle.tk_app.specs.Outside.{run_in}
 use Rattle.tk_app.specs.Seen.{Seen}
 use Rattle.tk_app.specs.Settle.{IsSoundIn}
+use Rattle.tk_app.proofs.Behind.{destroy_is}
 use Rattle.tk_app.proofs.ByUpdate.{destroy_same, scripts_same}
 use Rattle.tk_app.proofs.Grows.{Grows, LivesIn, StaysAndGrows, Was, found_given, found_number, grow_acts, none_left}
 use Rattle.tk_app.proofs.Panels.{chosen_screen}
@@ -121,23 +122,23 @@ module _ (room : ℕ) (all : List ℕ) where
   good_then first (Ended left code text) f kept rest = rest left code text kept
   good_then first (OutOfSteps left) f kept rest = tt
 
-  good_stepped : (steps : ℕ) (state : State Seen) (f : Continuation) → ((left : ℕ) → Good (f (record state { steps = left }))) → Good (stepped steps state f)
+  good_stepped : (steps : ℕ) (state : State Seen) (f : Action) → ((left : ℕ) → Good (f (record state { steps = left }))) → Good (stepped steps state f)
   good_stepped zero state f rest = tt
   good_stepped (suc left) state f rest = rest left
 
-  good_bound : (first : Tree) (behind : Continuation) → ((left : State Seen) → From first left.shows → Good (behind left)) → (scripts : List (List ℕ)) (state : State Seen) → From first state.shows
-      → Good (bound_meaning (run_in room) scripts behind state)
+  good_bound : (first : Tree) (behind : Action) → ((left : State Seen) → From first left.shows → Good (behind left)) → (scripts : List (List ℕ)) (state : State Seen) → From first state.shows
+      → Good (bound_behind (run_in room) scripts behind state)
   good_bound first behind rest [] state since = rest state since
   good_bound first behind rest (script ∷ scripts) state since =
       good_stepped state.steps state
-      (λ begun. and_then (global_meaning (run_in room) script begun) (λ left code text. after_bound (run_in room) (bound_meaning (run_in room) scripts behind) behind left (out_of_global code) text))
+      (λ begun. and_then (global_meaning (run_in room) script begun) (λ left code text. after_bound_behind (run_in room) (bound_behind (run_in room) scripts behind) behind left (out_of_global code) text))
       (λ steps. good_then first (global_meaning (run_in room) script (record state { steps = steps }))
-      (λ left code text. after_bound (run_in room) (bound_meaning (run_in room) scripts behind) behind left (out_of_global code) text)
+      (λ left code text. after_bound_behind (run_in room) (bound_behind (run_in room) scripts behind) behind left (out_of_global code) text)
       (global_since StaysAndGrows grow_acts first room script (record state { steps = steps }) since)
       (λ left code text kept. by (good_bound first behind rest scripts) left (out_of_global code) text kept))
     where
-      by : ((left : State Seen) → From first left.shows → Good (bound_meaning (run_in room) scripts behind left)) → (left : State Seen) (code : Code) (text : List ℕ) → From first left.shows
-          → Good (after_bound (run_in room) (bound_meaning (run_in room) scripts behind) behind left code text)
+      by : ((left : State Seen) → From first left.shows → Good (bound_behind (run_in room) scripts behind left)) → (left : State Seen) (code : Code) (text : List ℕ) → From first left.shows
+          → Good (after_bound_behind (run_in room) (bound_behind (run_in room) scripts behind) behind left code text)
       by others left Normal text kept = others left kept
       by others left Error text kept = rest (with_whole_panel (with_line Errors text left.shows.panel) left) kept
       by others left (Return code) text kept = others left kept
@@ -190,16 +191,16 @@ module _ (room : ℕ) (all : List ℕ) where
         by (Some window) is = rw childless (none_left n panel.windowing.tree.windows)
 
     -- one window, where those behind it go so
-    good_window : (n : ℕ) (ns done : List ℕ) (behind : Continuation) → HasOnly n done → n < first.next_number → ((window : Window) → window_at n first ≡ Some window → window.dying ≡ true)
-        → ((state : State Seen) → From first state.shows → AllGone (n ∷ done) state.shows.panel.windowing.tree → Good (windows_destroyed (run_in room) ns behind state))
-        → (state : State Seen) → From first state.shows → AllGone done state.shows.panel.windowing.tree → Good (windows_destroyed (run_in room) (n ∷ ns) behind state)
+    good_window : (n : ℕ) (ns done : List ℕ) (behind : Action) → HasOnly n done → n < first.next_number → ((window : Window) → window_at n first ≡ Some window → window.dying ≡ true)
+        → ((state : State Seen) → From first state.shows → AllGone (n ∷ done) state.shows.panel.windowing.tree → Good (windows_behind (run_in room) ns behind state))
+        → (state : State Seen) → From first state.shows → AllGone done state.shows.panel.windowing.tree → Good (windows_behind (run_in room) (n ∷ ns) behind state)
     good_window n ns done behind only given dead rest state since gone = by (window_at n here)
       where
         here : Tree
         here = state.shows.panel.windowing.tree
 
-        behind_it : Continuation
-        behind_it left = windows_destroyed (run_in room) ns behind (with_whole_panel (removed n left.shows.panel) left)
+        behind_it : Action
+        behind_it left = windows_behind (run_in room) ns behind (with_whole_panel (removed n left.shows.panel) left)
 
         next : (left : State Seen) → From here left.shows → Good (behind_it left)
         next left later =
@@ -220,16 +221,16 @@ module _ (room : ℕ) (all : List ℕ) where
               all_stay done now after.windowing.tree grown gone_now,
             )
 
-        by : (window : Option Window) → Good (destroy_dispatched (run_in room) window behind_it state)
+        by : (window : Option Window) → Good (destroyed_behind (run_in room) window behind_it state)
         by None = next state (grow_acts.same here)
         by (Some window) =
             let event : Event = destroy_event window state.shows.panel.moment in
             let there : Panel × List (List ℕ) = chosen event state.shows.panel in
             good_bound here behind_it next there.1 (with_whole_panel there.0 state) (by_screen StaysAndGrows grow_acts state.shows.panel there.0 (chosen_screen event state.shows.panel))
 
-    good_windows : (ns done : List ℕ) (behind : Continuation) → AllDoomed ns → AllHave done ns
+    good_windows : (ns done : List ℕ) (behind : Action) → AllDoomed ns → AllHave done ns
         → ((left : State Seen) → From first left.shows → AllGone (pushed ns done) left.shows.panel.windowing.tree → Good (behind left))
-        → (state : State Seen) → From first state.shows → AllGone done state.shows.panel.windowing.tree → Good (windows_destroyed (run_in room) ns behind state)
+        → (state : State Seen) → From first state.shows → AllGone done state.shows.panel.windowing.tree → Good (windows_behind (run_in room) ns behind state)
     good_windows [] done behind doomed have rest state since gone = rest state since gone
     good_windows (n ∷ ns) done behind doomed have rest state since gone =
         good_window n ns done behind have.0 doomed.0 doomed.1 (good_windows ns (n ∷ done) behind doomed.2 have.1 rest) state since gone
@@ -353,21 +354,21 @@ module _ (room : ℕ) (state : State Seen) (sound : IsSound state.shows.panel.wi
   all_have [] done ordered = tt
   all_have (n ∷ ns) done ordered = (has_only n done ordered.0, all_have ns (n ∷ done) ordered.1)
 
-  all_gone : LeavesNone numbers (windows_destroyed (run_in room) numbers (destroy_meaning (run_in room) []) (with_whole_panel (marked numbers state.shows.panel) state))
+  all_gone : LeavesNone numbers (windows_behind (run_in room) numbers (destroy_behind (run_in room) []) (with_whole_panel (marked numbers state.shows.panel) state))
   all_gone =
-      good_windows room numbers first marks.0 numbers [] (destroy_meaning (run_in room) []) (all_doomed numbers (λ n among. among))
+      good_windows room numbers first marks.0 numbers [] (destroy_behind (run_in room) []) (all_doomed numbers (λ n among. among))
       (all_have numbers [] (post_ordered tree.windows sound.rising sound.parents number))
       (λ left since gone. none_of numbers left.shows.panel.windowing.tree (λ n among. gone_among n (pushed numbers []) left.shows.panel.windowing.tree gone (all_pushed n numbers [] among)))
       (with_whole_panel (marked numbers state.shows.panel) state) (grow_acts.same first) tt
 
-destroys_run : (room : ℕ) (path : List ℕ) (state : State Seen) → IsSoundIn state → LeavesNone (doomed_by path state.shows.panel) (destroy_meaning (run_in room) (path ∷ []) state)
+destroys_run : (room : ℕ) (path : List ℕ) (state : State Seen) → IsSoundIn state → LeavesNone (doomed_by path state.shows.panel) (destroy_behind (run_in room) (path ∷ []) state)
 destroys_run room path state sound = by_path (at_path path state.shows.panel.windowing.tree) refl
   where
     tree : Tree
     tree = state.shows.panel.windowing.tree
 
     Gone : List ℕ → Type 0
-    Gone numbers = LeavesNone numbers (windows_destroyed (run_in room) numbers (destroy_meaning (run_in room) []) (with_whole_panel (marked numbers state.shows.panel) state))
+    Gone numbers = LeavesNone numbers (windows_behind (run_in room) numbers (destroy_behind (run_in room) []) (with_whole_panel (marked numbers state.shows.panel) state))
 
     by_dying : (number : ℕ) (window : Window) → window_at number tree ≡ Some window → (b : Bool) → Gone (cond b [] (post_order number tree))
     by_dying number window there true = tt
@@ -379,4 +380,5 @@ destroys_run room path state sound = by_path (at_path path state.shows.panel.win
 
 pub destroys_all : DestroysAll
 destroys_all update meets room path state sound =
-    subst (LeavesNone (doomed_by path state.shows.panel)) (destroy_same room (scripts_in update room) (scripts_same update meets room) (path ∷ []) state sound) (destroys_run room path state sound)
+    subst (LeavesNone (doomed_by path state.shows.panel))
+    (destroy_same room (scripts_in update room) (scripts_same update meets room) (path ∷ []) state sound ∙ destroy_is (scripts_in update room) (path ∷ []) state) (destroys_run room path state sound)

@@ -1,6 +1,7 @@
 -- Where all that is to be done at a moment has been done, the windows lie where a layout puts them.
 use Rattle.std.proofs.Common.{◌≡◌, ℕ, Bool, true, false, cond, List, [], ◌∷◌, Option, Some, None, refl, sym, ap, ◌∙◌, subst}
 use Rattle.std.specs.Prelude.{◌&&◌, not}
+use Rattle.std.specs.Option.{option_or}
 use Rattle.tcl_vars.specs.Store.{Store}
 use Rattle.tcl_control.specs.declared.code.Code.{Code}
 use Rattle.tcl_control.specs.declared.code.Code.TheVariants.{Normal}
@@ -9,7 +10,7 @@ use Rattle.tcl_interp.specs.declared.job.Looked.{Looked}
 use Rattle.tcl_interp.specs.declared.job.Looked.TheVariants.{Ends}
 use Rattle.tcl_interp.specs.JobLaws.{LookedLast}
 use Rattle.tcl_interp.proofs.Ends.{ends_looked}
-use Rattle.tk_after.specs.Timers.{idle_ids}
+use Rattle.tk_after.specs.Timers.{first_due, idle_ids}
 use Rattle.tk_screen.specs.Layout.{changes_due}
 use Rattle.tk_screen.specs.Own.{Windowing}
 use Rattle.tk_app.proofs.Left.{laid_sound}
@@ -27,7 +28,7 @@ use Rattle.tk_commands.specs.Rests.{is_empty, rest_settles, settles_last}
 use Rattle.tk_app.specs.Commands.{scripts_in}
 use Rattle.tk_app.specs.Outside.{calls, course}
 use Rattle.tk_app.specs.Seen.{Seen}
-use Rattle.tk_app.specs.Items.{round_or, layout_or, queued_or, timer_or}
+use Rattle.tk_app.specs.Items.{done_and, event_item, layout_item, round_item, timer_item}
 use Rattle.tk_app.specs.SettleJob.{EndsLaidOut, SettlesTwice, settle_meaning, settling, update_meaning}
 use Rattle.tk_app.proofs.ByEquations.{settles_all}
 use Rattle.tk_app.proofs.Equations.{none_due}
@@ -147,8 +148,13 @@ settles_twice state after code text is sound = by (is_closed after.shows.panel) 
         let left : empty && (early && idle) ≡ true = rw held at quiet in
         settles_all after sound
         ∙ rw held refl
-        ∙ ap (λ queue. queued_or (scripts_in update_meaning 200) queue settle_meaning after) (no_more panel.queue (one_so empty (early && idle) left))
-        ∙ ap (λ first. timer_or (scripts_in update_meaning 200) first settle_meaning after)
+        ∙ ap (λ queue. done_and
+        (option_or (event_item (scripts_in update_meaning 200) queue after)
+        (option_or (timer_item (scripts_in update_meaning 200) (first_due panel.moment panel.timers.entries) after)
+        (option_or (layout_item (changes_due panel.windowing after.store) after) (round_item (scripts_in update_meaning 200) (idle_ids panel.timers.entries) after)))) settle_meaning after)
+        (no_more panel.queue (one_so empty (early && idle) left))
+        ∙ ap (λ first. done_and
+        (option_or (timer_item (scripts_in update_meaning 200) first after) (option_or (layout_item (changes_due panel.windowing after.store) after) (round_item (scripts_in update_meaning 200) (idle_ids panel.timers.entries) after))) settle_meaning after)
         (none_due panel.moment panel.timers.entries (not_so (is_due panel.moment panel.timers.entries) (one_so early idle (other_so empty (early && idle) left))))
-        ∙ ap (λ changes. layout_or (scripts_in update_meaning 200) changes settle_meaning after) (ends_laid_out state after code text is sound held)
-        ∙ ap (λ ids. round_or (scripts_in update_meaning 200) ids settle_meaning after) (no_more (idle_ids panel.timers.entries) (other_so early idle (other_so empty (early && idle) left)))
+        ∙ ap (λ changes. done_and (option_or (layout_item changes after) (round_item (scripts_in update_meaning 200) (idle_ids panel.timers.entries) after)) settle_meaning after) (ends_laid_out state after code text is sound held)
+        ∙ ap (λ ids. done_and (round_item (scripts_in update_meaning 200) ids after) settle_meaning after) (no_more (idle_ids panel.timers.entries) (other_so early idle (other_so empty (early && idle) left)))

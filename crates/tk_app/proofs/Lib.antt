@@ -33,6 +33,7 @@ mod Shows
 pub mod Slices
 pub mod Slots
 mod Sound
+mod SoundBySettle
 pub mod SoundParts
 pub mod Stages
 mod Trees

@@ -9,8 +9,7 @@ use Rattle.tk_panel.specs.declared.job.Job.{Job}
 use Rattle.tk_panel.specs.Next.{next}
 use Rattle.tk_panel.specs.Settle.{Next}
 use Rattle.tk_commands.specs.Course.{looked_of}
-use Rattle.tk_app.specs.Dispatch.{with_panel_but_moment}
-use Rattle.tk_app.specs.Jobs.{GoesByNext, meaning, on_next}
+use Rattle.tk_app.specs.Jobs.{GoesByNext, meaning, on_next, with_panel_but_moment}
 use Rattle.tk_app.specs.Outside.{calls, course}
 use Rattle.tk_app.specs.Seen.{Seen}
 

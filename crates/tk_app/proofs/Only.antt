@@ -24,8 +24,9 @@ use Rattle.tk_panel.specs.Reports.{with_line}
 use Rattle.tk_panel.specs.Settle.{with_queue}
 use Rattle.tk_panel.proofs.Choices.{chosen_queue}
 use Rattle.tk_commands.specs.Course.{with_end}
-use Rattle.tk_app.specs.Dispatch.{Continuation, RunsScripts, after_bound, global_meaning, bound_meaning, with_whole_panel}
-use Rattle.tk_app.specs.Items.{waiting_meaning, waiting_taken, idle_meaning, item_meaning, round_or, layout_or, queued_or, timer_or, round_meaning}
+use Rattle.tk_app.specs.Behind.{after_bound_behind, bound_behind, idle_behind, item_behind, layout_or_behind, queued_or_behind, round_behind, round_or_behind, timer_or_behind, waiting_behind}
+use Rattle.tk_app.specs.Dispatch.{Action, RunsScripts, global_meaning, with_whole_panel}
+use Rattle.tk_app.specs.Items.{waiting_taken}
 use Rattle.tk_app.specs.Outside.{outside, run_in}
 use Rattle.tk_app.specs.Seen.{Seen}
 use Rattle.tk_app.specs.Settle.{IsSoundIn}
@@ -37,14 +38,14 @@ use Rattle.tk_app.proofs.Trees.{end_screen, laid}
 use Rattle.tk_screen.proofs.Twice.{laid_twice}
 
 -- the same where windows are sound and at most so many steps are left
-abbrev pub Agree : ℕ → Continuation → Continuation → Type 0
+abbrev pub Agree : ℕ → Action → Action → Type 0
 Agree n f g = (state : State Seen) → IsSoundIn state → state.steps ≤ n → f state ≡ g state
 
 -- the same once a step is taken
-abbrev Less : Continuation → Continuation → State Seen → Type 0
+abbrev Less : Action → Action → State Seen → Type 0
 Less f g state = (left : ℕ) → state.steps ≡ suc left → Agree left f g
 
-step_then : (steps : ℕ) (state : State Seen) (f g : Continuation) → ((left : ℕ) → steps ≡ suc left → f (record state { steps = left }) ≡ g (record state { steps = left })) → stepped steps state f ≡ stepped steps state g
+step_then : (steps : ℕ) (state : State Seen) (f g : Action) → ((left : ℕ) → steps ≡ suc left → f (record state { steps = left }) ≡ g (record state { steps = left })) → stepped steps state f ≡ stepped steps state g
 step_then zero state f g same = refl
 step_then (suc left) state f g same = same left refl
 
@@ -66,31 +67,31 @@ module _ (room : ℕ) (run : RunsScripts) (same_run : AgreesRun IsSoundShown (ru
       by (Ended left code text) kept within = same left code text kept within
       by (OutOfSteps left) kept within = refl
 
-  bound_ends : (n : ℕ) (others more f g : Continuation) → Agree n others more → Agree n f g → (left : State Seen) (code : Code) (text : List ℕ) → IsSoundIn left → left.steps ≤ n
-      → after_bound (run_in room) others f left code text ≡ after_bound run more g left code text
+  bound_ends : (n : ℕ) (others more f g : Action) → Agree n others more → Agree n f g → (left : State Seen) (code : Code) (text : List ℕ) → IsSoundIn left → left.steps ≤ n
+      → after_bound_behind (run_in room) others f left code text ≡ after_bound_behind run more g left code text
   bound_ends n others more f g rest same left Normal text sound few = rest left sound few
   bound_ends n others more f g rest same left Error text sound few = same (with_whole_panel (with_line Errors text left.shows.panel) left) sound few
   bound_ends n others more f g rest same left (Return code) text sound few = rest left sound few
   bound_ends n others more f g rest same left Break text sound few = same left sound few
   bound_ends n others more f g rest same left Continue text sound few = rest left sound few
 
-  bound_step : (n : ℕ) (f g : Continuation) → Agree n f g → (script : List ℕ) (scripts : List (List ℕ)) → Agree n (bound_meaning (run_in room) scripts f) (bound_meaning run scripts g)
-      → (state : State Seen) → IsSoundIn state → state.steps ≤ suc n → bound_meaning (run_in room) (script ∷ scripts) f state ≡ bound_meaning run (script ∷ scripts) g state
+  bound_step : (n : ℕ) (f g : Action) → Agree n f g → (script : List ℕ) (scripts : List (List ℕ)) → Agree n (bound_behind (run_in room) scripts f) (bound_behind run scripts g)
+      → (state : State Seen) → IsSoundIn state → state.steps ≤ suc n → bound_behind (run_in room) (script ∷ scripts) f state ≡ bound_behind run (script ∷ scripts) g state
   bound_step n f g same script scripts rest state sound few =
       step_then state.steps state
-      (λ begun. and_then (global_meaning (run_in room) script begun) (λ left code text. after_bound (run_in room) (bound_meaning (run_in room) scripts f) f left (out_of_global code) text))
-      (λ begun. and_then (global_meaning run script begun) (λ left code text. after_bound run (bound_meaning run scripts g) g left (out_of_global code) text))
+      (λ begun. and_then (global_meaning (run_in room) script begun) (λ left code text. after_bound_behind (run_in room) (bound_behind (run_in room) scripts f) f left (out_of_global code) text))
+      (λ begun. and_then (global_meaning run script begun) (λ left code text. after_bound_behind run (bound_behind run scripts g) g left (out_of_global code) text))
       (λ steps is. ran_same script (record state { steps = steps })
-      (λ left code text. after_bound (run_in room) (bound_meaning (run_in room) scripts f) f left (out_of_global code) text)
-      (λ left code text. after_bound run (bound_meaning run scripts g) g left (out_of_global code) text) sound
+      (λ left code text. after_bound_behind (run_in room) (bound_behind (run_in room) scripts f) f left (out_of_global code) text)
+      (λ left code text. after_bound_behind run (bound_behind run scripts g) g left (out_of_global code) text) sound
       (λ left code text kept fewer.
-      bound_ends n (bound_meaning (run_in room) scripts f) (bound_meaning run scripts g) f g rest same left (out_of_global code) text kept (omega (arith, fewer, is, few))))
+      bound_ends n (bound_behind (run_in room) scripts f) (bound_behind run scripts g) f g rest same left (out_of_global code) text kept (omega (arith, fewer, is, few))))
 
-  pub bound_same : (n : ℕ) (f g : Continuation) → Agree n f g → (scripts : List (List ℕ)) → Agree n (bound_meaning (run_in room) scripts f) (bound_meaning run scripts g)
+  pub bound_same : (n : ℕ) (f g : Action) → Agree n f g → (scripts : List (List ℕ)) → Agree n (bound_behind (run_in room) scripts f) (bound_behind run scripts g)
   bound_same n f g same [] state sound few = same state sound few
   bound_same n f g same (script ∷ scripts) state sound few = bound_step n f g same script scripts (bound_same n f g same scripts) state sound (omega (arith, few))
 
-  entry_same : (n : ℕ) (f g : Continuation) → Agree n f g → (id : ℕ) (script : List ℕ) → Agree n (waiting_meaning (run_in room) id script f) (waiting_meaning run id script g)
+  entry_same : (n : ℕ) (f g : Action) → Agree n f g → (id : ℕ) (script : List ℕ) → Agree n (waiting_behind (run_in room) id script f) (waiting_behind run id script g)
   entry_same n f g same id script state sound few =
       ran_same script (with_whole_panel (waiting_taken id state.shows.panel) state)
       (λ left code text. f (with_whole_panel (with_end (out_of_global code) text left.shows.panel) left))
@@ -100,91 +101,91 @@ module _ (room : ℕ) (run : RunsScripts) (same_run : AgreesRun IsSoundShown (ru
       (sound_screen left.shows.panel (with_end (out_of_global code) text left.shows.panel) (end_screen (out_of_global code) text left.shows.panel) kept) (omega (arith, fewer, few)))
 
   -- an entry, once its step is taken
-  entry_step : (n : ℕ) (f g : Continuation) → Agree n f g → (id : ℕ) (script : List ℕ) (state : State Seen) → IsSoundIn state → state.steps ≤ suc n
-      → stepped state.steps state (waiting_meaning (run_in room) id script f) ≡ stepped state.steps state (waiting_meaning run id script g)
+  entry_step : (n : ℕ) (f g : Action) → Agree n f g → (id : ℕ) (script : List ℕ) (state : State Seen) → IsSoundIn state → state.steps ≤ suc n
+      → stepped state.steps state (waiting_behind (run_in room) id script f) ≡ stepped state.steps state (waiting_behind run id script g)
   entry_step n f g same id script state sound few =
-      step_then state.steps state (waiting_meaning (run_in room) id script f) (waiting_meaning run id script g)
+      step_then state.steps state (waiting_behind (run_in room) id script f) (waiting_behind run id script g)
       (λ steps is. entry_same n f g same id script (record state { steps = steps }) sound (omega (arith, is, few)))
 
-  pub round_same : (n : ℕ) (f g : Continuation) → Agree n f g → (ids : List ℕ) → Agree n (round_meaning (run_in room) ids f) (round_meaning run ids g)
+  pub round_same : (n : ℕ) (f g : Action) → Agree n f g → (ids : List ℕ) → Agree n (round_behind (run_in room) ids f) (round_behind run ids g)
   round_same n f g same [] state sound few = same state sound few
   round_same n f g same (id ∷ ids) state sound few = by (entry_with id state.shows.panel.timers.entries) (round_same n f g same ids)
     where
-      by : (entry : Option WaitingScript) → Agree n (round_meaning (run_in room) ids f) (round_meaning run ids g)
-          → idle_meaning (run_in room) id entry (round_meaning (run_in room) ids f) state ≡ idle_meaning run id entry (round_meaning run ids g) state
+      by : (entry : Option WaitingScript) → Agree n (round_behind (run_in room) ids f) (round_behind run ids g)
+          → idle_behind (run_in room) id entry (round_behind (run_in room) ids f) state ≡ idle_behind run id entry (round_behind run ids g) state
       by None rest = rest state sound few
-      by (Some entry) rest = entry_step n (round_meaning (run_in room) ids f) (round_meaning run ids g) rest id entry.script state sound (omega (arith, few))
+      by (Some entry) rest = entry_step n (round_behind (run_in room) ids f) (round_behind run ids g) rest id entry.script state sound (omega (arith, few))
 
   -- two functions that meet the same equation: what is to be done first, where this test holds nothing
-  module _ (is_over : State Seen → Bool) (f g : Continuation)
-      (f_meets : (state : State Seen) → IsSoundIn state → f state ≡ cond (is_over state) (Ended state Normal []) (item_meaning (run_in room) f state))
-      (g_meets : (state : State Seen) → IsSoundIn state → g state ≡ cond (is_over state) (Ended state Normal []) (item_meaning run g state)) where
-    meets : (state : State Seen) → IsSoundIn state → item_meaning (run_in room) f state ≡ item_meaning run g state → f state ≡ g state
+  module _ (is_over : State Seen → Bool) (f g : Action)
+      (f_meets : (state : State Seen) → IsSoundIn state → f state ≡ cond (is_over state) (Ended state Normal []) (item_behind (run_in room) f state))
+      (g_meets : (state : State Seen) → IsSoundIn state → g state ≡ cond (is_over state) (Ended state Normal []) (item_behind run g state)) where
+    meets : (state : State Seen) → IsSoundIn state → item_behind (run_in room) f state ≡ item_behind run g state → f state ≡ g state
     meets state sound same = f_meets state sound ∙ by (is_over state) ∙ sym (g_meets state sound)
       where
-        by : (b : Bool) → cond b (Ended state Normal []) (item_meaning (run_in room) f state) ≡ cond b (Ended state Normal []) (item_meaning run g state)
+        by : (b : Bool) → cond b (Ended state Normal []) (item_behind (run_in room) f state) ≡ cond b (Ended state Normal []) (item_behind run g state)
         by true = refl
         by false = same
 
     -- where no step is left, a step ends it
-    with_less : (state : State Seen) (one other : Continuation) → ((left : ℕ) → state.steps ≡ suc left → one (record state { steps = left }) ≡ other (record state { steps = left }))
+    with_less : (state : State Seen) (one other : Action) → ((left : ℕ) → state.steps ≡ suc left → one (record state { steps = left }) ≡ other (record state { steps = left }))
         → stepped state.steps state one ≡ stepped state.steps state other
     with_less state one other same = step_then state.steps state one other same
 
-    entry_less : (id : ℕ) (script : List ℕ) (state : State Seen) (one other : Continuation) → ((left : ℕ) → state.steps ≡ suc left → Agree left one other) → IsSoundIn state
-        → stepped state.steps state (waiting_meaning (run_in room) id script one) ≡ stepped state.steps state (waiting_meaning run id script other)
+    entry_less : (id : ℕ) (script : List ℕ) (state : State Seen) (one other : Action) → ((left : ℕ) → state.steps ≡ suc left → Agree left one other) → IsSoundIn state
+        → stepped state.steps state (waiting_behind (run_in room) id script one) ≡ stepped state.steps state (waiting_behind run id script other)
     entry_less id script state one other less sound =
-        with_less state (waiting_meaning (run_in room) id script one) (waiting_meaning run id script other)
+        with_less state (waiting_behind (run_in room) id script one) (waiting_behind run id script other)
         (λ left is. entry_same left one other (less left is) id script (record state { steps = left }) sound (omega arith))
 
     bound_less : (script : List ℕ) (scripts : List (List ℕ)) (state : State Seen) → Less f g state → IsSoundIn state
-        → bound_meaning (run_in room) (script ∷ scripts) f state ≡ bound_meaning run (script ∷ scripts) g state
+        → bound_behind (run_in room) (script ∷ scripts) f state ≡ bound_behind run (script ∷ scripts) g state
     bound_less script scripts state less sound =
         step_then state.steps state
-        (λ begun. and_then (global_meaning (run_in room) script begun) (λ left code text. after_bound (run_in room) (bound_meaning (run_in room) scripts f) f left (out_of_global code) text))
-        (λ begun. and_then (global_meaning run script begun) (λ left code text. after_bound run (bound_meaning run scripts g) g left (out_of_global code) text))
+        (λ begun. and_then (global_meaning (run_in room) script begun) (λ left code text. after_bound_behind (run_in room) (bound_behind (run_in room) scripts f) f left (out_of_global code) text))
+        (λ begun. and_then (global_meaning run script begun) (λ left code text. after_bound_behind run (bound_behind run scripts g) g left (out_of_global code) text))
         (λ steps is. ran_same script (record state { steps = steps })
-        (λ left code text. after_bound (run_in room) (bound_meaning (run_in room) scripts f) f left (out_of_global code) text)
-        (λ left code text. after_bound run (bound_meaning run scripts g) g left (out_of_global code) text) sound
+        (λ left code text. after_bound_behind (run_in room) (bound_behind (run_in room) scripts f) f left (out_of_global code) text)
+        (λ left code text. after_bound_behind run (bound_behind run scripts g) g left (out_of_global code) text) sound
         (λ left code text kept fewer.
-        bound_ends steps (bound_meaning (run_in room) scripts f) (bound_meaning run scripts g) f g (bound_same steps f g (less steps is) scripts) (less steps is) left (out_of_global code) text kept fewer))
+        bound_ends steps (bound_behind (run_in room) scripts f) (bound_behind run scripts g) f g (bound_same steps f g (less steps is) scripts) (less steps is) left (out_of_global code) text kept fewer))
 
-    idle_less : (ids : List ℕ) (state : State Seen) → idle_ids state.shows.panel.timers.entries ≡ ids → IsSoundIn state → Less f g state → round_or (run_in room) ids f state ≡ round_or run ids g state
+    idle_less : (ids : List ℕ) (state : State Seen) → idle_ids state.shows.panel.timers.entries ≡ ids → IsSoundIn state → Less f g state → round_or_behind (run_in room) ids f state ≡ round_or_behind run ids g state
     idle_less [] state is sound less = refl
     idle_less (id ∷ ids) state is sound less = by (entry_with id state.shows.panel.timers.entries) (idle_there room id ids state.shows.panel.timers.entries is)
       where
-        by : (entry : Option WaitingScript) → is_some entry ≡ true → idle_meaning (run_in room) id entry (round_meaning (run_in room) ids f) state ≡ idle_meaning run id entry (round_meaning run ids g) state
+        by : (entry : Option WaitingScript) → is_some entry ≡ true → idle_behind (run_in room) id entry (round_behind (run_in room) ids f) state ≡ idle_behind run id entry (round_behind run ids g) state
         by None there = absurd (cc)
         by (Some entry) there =
-            entry_less id entry.script state (round_meaning (run_in room) ids f) (round_meaning run ids g) (λ left is. round_same left f g (less left is) ids) sound
+            entry_less id entry.script state (round_behind (run_in room) ids f) (round_behind run ids g) (λ left is. round_same left f g (less left is) ids) sound
 
     timer_less : (first : Option WaitingScript) (state : State Seen) → IsSoundIn state → Less f g state
-        → layout_or (run_in room) (changes_due state.shows.panel.windowing state.store) f state ≡ layout_or run (changes_due state.shows.panel.windowing state.store) g state
-        → timer_or (run_in room) first f state ≡ timer_or run first g state
+        → layout_or_behind (run_in room) (changes_due state.shows.panel.windowing state.store) f state ≡ layout_or_behind run (changes_due state.shows.panel.windowing state.store) g state
+        → timer_or_behind (run_in room) first f state ≡ timer_or_behind run first g state
     timer_less None state sound less layout = layout
     timer_less (Some entry) state sound less layout = entry_less entry.id entry.script state f g less sound
 
     -- what a layout finds hangs on the screen alone
     module _ (Ready : State Seen → Type 0) (stays : (state : State Seen) (panel : Panel) → panel.windowing ≡ state.shows.panel.windowing → Ready state → Ready (with_whole_panel panel state))
         (lays : (state : State Seen) → Ready state → IsSoundIn state → Less f g state
-        → layout_or (run_in room) (changes_due state.shows.panel.windowing state.store) f state ≡ layout_or run (changes_due state.shows.panel.windowing state.store) g state) where
+        → layout_or_behind (run_in room) (changes_due state.shows.panel.windowing state.store) f state ≡ layout_or_behind run (changes_due state.shows.panel.windowing state.store) g state) where
       solved : (queue : List Event) (state : State Seen) → state.shows.panel.queue ≡ queue → Ready state → IsSoundIn state → Less f g state → f state ≡ g state
       solved [] state is ready sound less =
           meets state sound
-          (ap (λ queue. queued_or (run_in room) queue f state) is
+          (ap (λ queue. queued_or_behind (run_in room) queue f state) is
           ∙ timer_less (first_due state.shows.panel.moment state.shows.panel.timers.entries) state sound less (lays state ready sound less)
-          ∙ sym (ap (λ queue. queued_or run queue g state) is))
+          ∙ sym (ap (λ queue. queued_or_behind run queue g state) is))
       solved (event ∷ events) state is ready sound less =
           let taken : Panel = with_queue events state.shows.panel in
           let there : Panel × List (List ℕ) = chosen event taken in
           meets state sound
-          (ap (λ queue. queued_or (run_in room) queue f state) is
+          (ap (λ queue. queued_or_behind (run_in room) queue f state) is
           ∙ by there.1 there.0 (chosen_screen event taken) (solved events (with_whole_panel there.0 state) (chosen_queue event taken))
-          ∙ sym (ap (λ queue. queued_or run queue g state) is))
+          ∙ sym (ap (λ queue. queued_or_behind run queue g state) is))
         where
           by : (scripts : List (List ℕ)) (after : Panel) → after.windowing ≡ state.shows.panel.windowing
               → (Ready (with_whole_panel after state) → IsSoundIn (with_whole_panel after state) → Less f g (with_whole_panel after state) → f (with_whole_panel after state) ≡ g (with_whole_panel after state))
-              → bound_meaning (run_in room) scripts f (with_whole_panel after state) ≡ bound_meaning run scripts g (with_whole_panel after state)
+              → bound_behind (run_in room) scripts f (with_whole_panel after state) ≡ bound_behind run scripts g (with_whole_panel after state)
           by [] after same rest = rest (stays state after same ready) (sound_screen state.shows.panel after same sound) less
           by (script ∷ scripts) after same rest = bound_less script scripts (with_whole_panel after state) less (sound_screen state.shows.panel after same sound)
 
@@ -196,17 +197,17 @@ module _ (room : ℕ) (run : RunsScripts) (same_run : AgreesRun IsSoundShown (ru
     laid_stays state panel same is = ap (λ (windowing : Windowing). changes_due windowing state.store) same ∙ is
 
     laid_lays : (state : State Seen) → IsLaid state → IsSoundIn state → Less f g state
-        → layout_or (run_in room) (changes_due state.shows.panel.windowing state.store) f state ≡ layout_or run (changes_due state.shows.panel.windowing state.store) g state
+        → layout_or_behind (run_in room) (changes_due state.shows.panel.windowing state.store) f state ≡ layout_or_behind run (changes_due state.shows.panel.windowing state.store) g state
     laid_lays state is sound less =
-        ap (λ changes. layout_or (run_in room) changes f state) is
+        ap (λ changes. layout_or_behind (run_in room) changes f state) is
         ∙ idle_less (idle_ids state.shows.panel.timers.entries) state refl sound less
-        ∙ sym (ap (λ changes. layout_or run changes g state) is)
+        ∙ sym (ap (λ changes. layout_or_behind run changes g state) is)
 
     any_lays : (state : State Seen) → Unit {0} → IsSoundIn state → Less f g state
-        → layout_or (run_in room) (changes_due state.shows.panel.windowing state.store) f state ≡ layout_or run (changes_due state.shows.panel.windowing state.store) g state
+        → layout_or_behind (run_in room) (changes_due state.shows.panel.windowing state.store) f state ≡ layout_or_behind run (changes_due state.shows.panel.windowing state.store) g state
     any_lays state ready sound less = by (changes_due state.shows.panel.windowing state.store)
       where
-        by : (changes : List PlaceChange) → layout_or (run_in room) changes f state ≡ layout_or run changes g state
+        by : (changes : List PlaceChange) → layout_or_behind (run_in room) changes f state ≡ layout_or_behind run changes g state
         by [] = idle_less (idle_ids state.shows.panel.timers.entries) state refl sound less
         by (change ∷ changes) =
             let panel : Panel = laid_out state.store state.shows.panel in

@@ -37,7 +37,7 @@ use Rattle.tk_app.specs.Moments.{after_outcome, settled_as, settled_by, started_
 use Rattle.tk_app.specs.MomentsByJob.{settled}
 use Rattle.tk_app.specs.Seen.{Meaning, Seen}
 use Rattle.tk_app.specs.Commands.{scripts_in}
-use Rattle.tk_app.specs.Dispatch.{global_meaning, with_panel_but_moment}
+use Rattle.tk_app.specs.Dispatch.{global_meaning, with_whole_panel}
 use Rattle.tk_app.specs.Jobs.{comes_next}
 use Rattle.tk_app.specs.Settle.{after_script, start_meaning}
 use Rattle.tk_app.specs.SettleJob.{settle_meaning, settling, update_meaning}
@@ -105,7 +105,7 @@ quiet_start : (script : List ℕ) (state : State Seen) → Quiet (start_meaning 
 quiet_start script state = by (global_meaning (scripts_in update_meaning 200) script state)
   where
     by : (o : Outcome Seen) → Quiet (and_then o (after_script settle_meaning))
-    by (Ended left code text) = quiet_settle (with_panel_but_moment (with_end (out_of_global code) text left.shows.panel) left)
+    by (Ended left code text) = quiet_settle (with_whole_panel (with_end (out_of_global code) text left.shows.panel) left)
     by (OutOfSteps left) = tt
 
 -- ── so nothing is due ──

@@ -17,13 +17,13 @@ use Rattle.tk_app.specs.declared.state.AppState.{AppState}
 use Rattle.tk_app.specs.declared.state.AppState.TheVariants.{Running, Exhausted, Closed}
 use Rattle.tk_app.specs.Application.{Application, panel_at}
 use Rattle.tk_app.specs.Commands.{scripts_in}
-use Rattle.tk_app.specs.Dispatch.{global_meaning, with_panel_but_moment}
+use Rattle.tk_app.specs.Dispatch.{global_meaning, with_whole_panel}
 use Rattle.tk_app.specs.Moments.{after_outcome, delivered, delivered_as, settled_as, settled_by, started_by, state_at}
 use Rattle.tk_app.specs.MomentsByJob.{settled, started}
 use Rattle.tk_app.specs.Seen.{Meaning, Seen}
 use Rattle.tk_app.specs.Settle.{IsSoundIn, after_script, start_meaning}
 use Rattle.tk_app.specs.SettleJob.{settle_meaning, settling, update_meaning}
-use Rattle.tk_app.specs.Sound.{EndsSound, RunsSound, StaysSound}
+use Rattle.tk_app.specs.Sound.{EndsSound, RunsSound, StaysSoundBy}
 use Rattle.tk_app.proofs.ByEquations.{updates}
 use Rattle.tk_app.proofs.ByUpdate.{keeps_sound}
 use Rattle.tk_app.proofs.Trees.{end_screen}
@@ -39,7 +39,7 @@ unfolding settle_meaning
 start_sound script state sound =
     then_sound (global_meaning (scripts_in update_meaning 200) script state) (after_script settle_meaning) ((keeps_sound 200 state sound).0 update_meaning updates script)
     (λ left code text kept.
-    (keeps_sound 200 (with_panel_but_moment (with_end (out_of_global code) text left.shows.panel) left)
+    (keeps_sound 200 (with_whole_panel (with_end (out_of_global code) text left.shows.panel) left)
     (subst (λ (windowing : Windowing). IsSound windowing.tree) (sym (end_screen (out_of_global code) text left.shows.panel)) kept)).1 settling)
 
 rectangle_tree : (kind : LocalKind) (panel : Panel) → (with_rectangle kind panel).windowing.tree ≡ panel.windowing.tree
@@ -88,7 +88,7 @@ module _ {M : Type 0} (answer : M → Meaning) where
       by Exhausted is = sound
       by Closed is = sound
 
-  pub stays_sound : StaysSound answer
+  pub stays_sound : StaysSoundBy answer update_meaning settle_meaning
   stays_sound = record {
     fresh = λ spec runs. first_sound spec.name (spec.width, spec.height);
     started = started_sound;

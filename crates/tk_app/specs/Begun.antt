@@ -21,9 +21,9 @@ use Rattle.tk_commands.specs.Commands.{command_named, panel_command}
 use Rattle.tk_commands.specs.declared.commands.TkCommand.TheVariants.{Class}
 use Rattle.tk_commands.specs.declared.outcome.CommandOutcome.TheVariants.{Acts}
 use Rattle.tk_commands.specs.Outcomes.{done}
-use Rattle.tk_app.specs.Commands.{Update, command_meaning, ends_there, scripts_in}
+use Rattle.tk_app.specs.Commands.{Update, command_meaning, scripts_in}
 use Rattle.tk_app.specs.Destroy.{destroy_meaning}
-use Rattle.tk_app.specs.Dispatch.{Continuation, global_meaning, dispatch_meaning, with_whole_panel}
+use Rattle.tk_app.specs.Dispatch.{Action, global_meaning, dispatch_meaning, with_whole_panel}
 use Rattle.tk_app.specs.Items.{idle_tasks_meaning, item_meaning}
 use Rattle.tk_app.specs.Seen.{Seen, served_by}
 use Rattle.tk_app.specs.Settle.{IsSoundIn, IsUpdate}
@@ -38,7 +38,7 @@ UpdateBegins = (update : Update) (room : ℕ) (called : List ℕ) (state : State
 
 -- So it is whatever meets that equation in its room: the first item that exists, and that again.
 abbrev pub UpdateIs : Type 0
-UpdateIs = (update : Update) → IsUpdate update → (room : ℕ) (other : Continuation)
+UpdateIs = (update : Update) → IsUpdate update → (room : ℕ) (other : Action)
     → ((state : State Seen) → IsSoundIn state → other state ≡ item_meaning (scripts_in update room) other state)
     → (called : List ℕ) (state : State Seen) → IsNoAlias (codes "update") state → IsSoundIn state
     → command_meaning update (scripts_in update room) called (codes "update") [] state ≡ other state
@@ -58,7 +58,7 @@ abbrev pub GenerateBegins : Type 0
 GenerateBegins = (update : Update) (room : ℕ) (called : List ℕ) (words : List (List ℕ)) (generated : Generated) (state : State Seen) → IsNoAlias (codes "event") state
     → (let panel : Panel = state.shows.panel in generate_words words panel.input.focus (length panel.queue) panel.moment panel.windowing.tree ≡ Ok generated)
     → generated.when ≡ Now
-    → command_meaning update (scripts_in update room) called (codes "event") (codes "generate" ∷ words) state ≡ dispatch_meaning (scripts_in update room) generated.event ends_there state
+    → command_meaning update (scripts_in update room) called (codes "event") (codes "generate" ∷ words) state ≡ dispatch_meaning (scripts_in update room) generated.event state
 
 -- ── class commands, and widgets' own ──
 
@@ -74,13 +74,12 @@ SelectBegins = (update : Update) (room : ℕ) (called name : List ℕ) (command 
     → (let there : ClassDone = class_command command words state.shows.panel state.store in
     there.outcome ≡ Selects number → window_at number there.panel.windowing.tree ≡ Some window
     → command_meaning update (scripts_in update room) called name words state
-    ≡ dispatch_meaning (scripts_in update room) (bare_event (Virtual (codes "ListboxSelect")) window.number window.path state.shows.panel.moment) ends_there
+    ≡ dispatch_meaning (scripts_in update room) (bare_event (Virtual (codes "ListboxSelect")) window.number window.path state.shows.panel.moment)
     (shown_with there.panel there.store state))
 
 -- A command that comes to a script (`invoke`, `tk::ButtonInvoke`, `tk::ButtonUp`) runs it at global level, and ends as it does.
 abbrev pub InvokeRuns : Type 0
 InvokeRuns = (update : Update) (room : ℕ) (called name : List ℕ) (words : List (List ℕ)) (script : List ℕ) (panel : Panel) (store : Store) (state : State Seen)
     → IsNoAlias name state → panel_command (name ∷ words) state.shows.panel state.store ≡ done panel store (Acts (Script script))
-    → panel.moment ≡ state.shows.panel.moment
     → command_meaning update (scripts_in update room) called name words state
     ≡ and_then (global_meaning (scripts_in update room) script (shown_with panel store state)) (λ left code text. ends_global left (out_of_global code) text)

@@ -3,7 +3,11 @@ use Rattle.tcl_interp.specs.Course.{Course}
 use Rattle.tk_panel.specs.declared.job.Job.{Job}
 use Rattle.tk_panel.specs.Panel.{Panel}
 use Rattle.tk_commands.specs.Course.{ended as panel_ended, job_started as panel_started, look as panel_look}
-use Rattle.tk_app.specs.Seen.{Seen, seen_with_panel}
+use Rattle.tk_app.specs.Seen.{Seen}
+
+-- the same with something else in the panel, at the same moment
+abbrev pub seen_with_panel : Panel → Seen → Seen
+seen_with_panel panel seen = record seen { panel = record panel { moment = seen.panel.moment } }
 
 -- what becomes of the panel, which is all that changes; the moment stays
 abbrev pub of_panel : {T : Type 0} → Seen → Panel × T → Seen × T

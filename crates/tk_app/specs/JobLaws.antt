@@ -11,7 +11,7 @@ use Rattle.tk_panel.specs.Start.{without_event}
 use Rattle.tk_commands.specs.Course.{destroying, event_job, settling as settling_to}
 use Rattle.tk_app.specs.Commands.{command_meaning, scripts_in}
 use Rattle.tk_app.specs.Destroy.{destroy_meaning}
-use Rattle.tk_app.specs.Dispatch.{dispatch_meaning, with_whole_panel}
+use Rattle.tk_app.specs.Dispatch.{dispatch_meaning, followed_by, with_whole_panel}
 use Rattle.tk_app.specs.Items.{idle_tasks_meaning}
 use Rattle.tk_app.specs.Jobs.{meaning}
 use Rattle.tk_app.specs.Outside.{outside, run_in}
@@ -38,7 +38,7 @@ UpdatesIdleTasks = (room : ℕ) (state : State Seen) → meaning room (settling_
 abbrev pub Dispatches : Type 0
 Dispatches = (room : ℕ) (event : Event) (rest : Rest) (state : State Seen)
     → (let there : Panel × List (List ℕ) = chosen event state.shows.panel in meaning room (event_job there.1 rest) (with_whole_panel there.0 state))
-    ≡ dispatch_meaning (scripts_in update_meaning room) event (meaning room (without_event rest)) state
+    ≡ followed_by (dispatch_meaning (scripts_in update_meaning room) event state) (meaning room (without_event rest))
 
 -- the job that `destroy` begins with these paths is *Destroy* of them
 abbrev pub Destroys : Type 0

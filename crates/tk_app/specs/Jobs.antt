@@ -11,13 +11,18 @@ use Rattle.tk_panel.specs.Panel.{Panel}
 use Rattle.tk_panel.specs.Settle.{Next}
 use Rattle.tk_panel.specs.Start.{start}
 use Rattle.tk_commands.specs.Course.{ended}
-use Rattle.tk_app.specs.Dispatch.{RunsScripts, global_meaning, with_panel_but_moment}
+use Rattle.tk_app.specs.Course.{seen_with_panel}
+use Rattle.tk_app.specs.Dispatch.{RunsScripts, global_meaning}
 use Rattle.tk_app.specs.Outside.{calls, course, run_in}
 use Rattle.tk_app.specs.Seen.{Seen}
 
 -- what a job comes to, where scripts are run so
 abbrev pub meaning_by : RunsScripts → Job → State Seen → Outcome Seen
 meaning_by run job state = job_by course calls run job state
+
+-- the state with another panel, at the moment that it has
+abbrev pub with_panel_but_moment : Panel → State Seen → State Seen
+with_panel_but_moment panel state = record state { shows = seen_with_panel panel state.shows }
 
 -- with room for so many scripts one in another
 module _ (room : ℕ) where

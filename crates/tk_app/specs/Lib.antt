@@ -13,6 +13,7 @@ pub mod Inspection
 pub mod Items
 pub mod JobLaws
 pub mod Jobs
+pub mod LaidOut
 pub mod Moments
 pub mod MomentsByJob
 pub mod Names
@@ -27,6 +28,7 @@ pub mod Settle
 pub mod SettleJob
 pub mod Shares
 pub mod Sound
+pub mod SoundByJob
 pub mod Spec
 pub mod Stages
 pub mod Together

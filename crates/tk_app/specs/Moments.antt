@@ -9,7 +9,7 @@ use Rattle.tk_app.specs.declared.state.AppState.{AppState}
 use Rattle.tk_app.specs.declared.state.AppState.TheVariants.{Running, Exhausted, Closed}
 use Rattle.tk_app.specs.Application.{Application, panel_at, with_panel}
 use Rattle.tk_app.specs.Commands.{Update}
-use Rattle.tk_app.specs.Dispatch.{Continuation}
+use Rattle.tk_app.specs.Dispatch.{Action}
 use Rattle.tk_app.specs.Seen.{Meaning, Seen, meanings}
 use Rattle.tk_app.specs.Settle.{start_meaning}
 
@@ -64,11 +64,11 @@ module _ {M : Type 0} (answer : M → Meaning) where
   state_at moment application = state_in (0 ∷ []) moment application
 
   -- By what `update` and *Settle* are: its script has run at a moment, an error of it is told, and what was to be done then is done.
-  unfoldable pub started_by : Update → Continuation → ℕ → List ℕ → Application M → Application M
+  unfoldable pub started_by : Update → Action → ℕ → List ℕ → Application M → Application M
   started_by update settle moment script application = after_outcome (start_meaning update settle script (state_at moment application)) application
 
   -- by what *Settle* is
-  module _ (settle : Continuation) where
+  module _ (settle : Action) where
     -- What is to be done at a moment has been done. An application that is exhausted or closed does nothing more.
     abbrev pub settled_as : AppState → ℕ → Application M → Application M
     settled_as Running moment application = after_outcome (settle (state_at moment application)) application

@@ -12,9 +12,10 @@ use Rattle.tk_alias.specs.Replies.{Answer}
 use Rattle.tk_panel.specs.declared.job.Job.{Job}
 use Rattle.tk_panel.specs.Panel.{Panel}
 use Rattle.tk_commands.specs.Calls.{calls as panel_calls}
+use Rattle.tk_app.specs.Course.{seen_with_panel}
 pub use Rattle.tk_app.specs.Course.{course, of_panel}
 use Rattle.tk_app.specs.Dispatch.{RunsScripts}
-use Rattle.tk_app.specs.Seen.{Meaning, Seen, served_by, seen_with_panel}
+use Rattle.tk_app.specs.Seen.{Meaning, Seen, served_by}
 
 abbrev pub Does : Type 0
 Does = Told Seen (Task Job)

@@ -11,10 +11,6 @@ pub record Seen : Type 0 where
   pub serves : List (List ℕ × Meaning)
   pub panel : Panel
 
--- the same with something else in the panel, at the same moment
-abbrev pub seen_with_panel : Panel → Seen → Seen
-seen_with_panel panel seen = record seen { panel = record panel { moment = seen.panel.moment } }
-
 -- what the alias of a name means, where there is one
 abbrev pub served_by : List ℕ → List (List ℕ × Meaning) → Option Meaning
 served_by name [] = None

@@ -9,7 +9,7 @@ use Rattle.tk_panel.specs.declared.job.Job.{Job}
 use Rattle.tk_panel.specs.Panel.{is_closed}
 use Rattle.tk_commands.specs.Course.{settling as settling_to}
 use Rattle.tk_app.specs.Commands.{Update, scripts_in}
-use Rattle.tk_app.specs.Dispatch.{Continuation}
+use Rattle.tk_app.specs.Dispatch.{Action}
 use Rattle.tk_app.specs.Items.{item_meaning}
 use Rattle.tk_app.specs.Jobs.{meaning, meaning_by}
 use Rattle.tk_app.specs.Seen.{Seen}
@@ -34,7 +34,7 @@ Settles = IsSettle update_meaning settle_meaning
 
 -- Nothing else does: what meets it wherever windows are numbered so is *Settle* there, by whatever meets the equation of `update`.
 abbrev pub OnlySettle : Type 0
-OnlySettle = (update : Update) → IsUpdate update → (other : Continuation) → IsSettle update other
+OnlySettle = (update : Update) → IsUpdate update → (other : Action) → IsSettle update other
     → (state : State Seen) → IsSoundIn state → other state ≡ settle_meaning state
 
 -- The job of `update` meets its own.
@@ -43,7 +43,7 @@ Updates = IsUpdate update_meaning
 
 -- Nor does anything else meet this one, in any room, by whatever scripts are run there.
 abbrev pub OnlyUpdate : Type 0
-OnlyUpdate = (update : Update) → IsUpdate update → (room : ℕ) (other : Continuation)
+OnlyUpdate = (update : Update) → IsUpdate update → (room : ℕ) (other : Action)
     → ((state : State Seen) → IsSoundIn state → other state ≡ item_meaning (scripts_in update room) other state)
     → (state : State Seen) → IsSoundIn state → other state ≡ update_meaning (scripts_in update_meaning room) state
 

@@ -30,7 +30,9 @@ ghost use Rattle.tk_app.specs.SettleJob.{
   SettlesTwice,
   Updates,
 };
-ghost use Rattle.tk_app.specs.Sound.{BySettle, KeepsSound, StaysSound};
+ghost use Rattle.tk_app.specs.LaidOut.{LeavesLaidOut, LeavesSettled};
+ghost use Rattle.tk_app.specs.Sound.{ScriptsKeepSound, ScriptsTakeNoSteps, StaysSound};
+ghost use Rattle.tk_app.specs.SoundByJob.{BySettle, KeepsSound};
 
 use tk_alias::AliasMeaning;
 
@@ -94,7 +96,8 @@ pub fn destroys()
 
 /// Whatever scripts and jobs do, the windows stay numbered as they were made, each behind its parent, as these equations want it.
 pub fn keeps_sound()
-    ensures { KeepsSound }
+    ensures scripts { ScriptsKeepSound }
+    ensures jobs { KeepsSound }
 {}
 
 /// So they are in an application from its beginning on, as long as it runs.
@@ -103,11 +106,13 @@ pub fn stays_sound<M: AliasMeaning>()
 {}
 
 /// What the commands of an application come to by the equations, and by the job of `update`, is what its interpreter makes of them, by jobs and their
-/// tasks; so scripts are, with any room for scripts in one another. By whatever else meets the equation of `update` they come to the same.
+/// tasks; so scripts are, with any room for scripts in one another. By whatever else meets the equation of `update` they come to the same;
+/// where a script has ended by it, no more steps are left than before, as the equation of a loop wants it.
 pub fn scripts_by_equations()
     ensures commands { CommandsAreCalled }
     ensures scripts { ScriptsAreRun }
     ensures update { OneUpdate }
+    ensures steps { ScriptsTakeNoSteps }
 {}
 
 /// Where no alias serves their names, commands do what these equations say, by whatever name they are called: `update` and `update idletasks`, `destroy`, an
@@ -124,12 +129,14 @@ pub fn commands_begin_jobs()
 
 /// Where *Settle* has ended and there is a main window, the windows lie where a layout from nothing puts them (pack(n)).
 pub fn ends_laid_out()
-    ensures { EndsLaidOut }
+    ensures by_settle { LeavesLaidOut }
+    ensures by_job { EndsLaidOut }
 {}
 
 /// Where *Settle* has ended, *Settle* at the same moment does nothing: there is no main window, or nothing waits and no layout changes anything.
 pub fn settles_twice()
-    ensures { SettlesTwice }
+    ensures by_settle { LeavesSettled }
+    ensures by_job { SettlesTwice }
 {}
 
 /// What a job comes to is what comes next of it: a step is taken, what is next starts, and its script runs at global level.

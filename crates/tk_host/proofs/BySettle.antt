@@ -4,7 +4,7 @@ use Rattle.std.specs.Prelude.{nat_eq, if◌then◌else◌}
 use Rattle.tk_base.specs.declared.local_event.LocalEvent.{LocalEvent}
 use Rattle.tk_app.specs.Application.{Application, fresh, next_due}
 use Rattle.tk_app.specs.Commands.{Update}
-use Rattle.tk_app.specs.Dispatch.{Continuation}
+use Rattle.tk_app.specs.Dispatch.{Action}
 use Rattle.tk_app.specs.Moments.{delivered, settled_by}
 use Rattle.tk_app.specs.MomentsByJob.{settled}
 use Rattle.tk_app.specs.Seen.{Meaning}
@@ -40,7 +40,7 @@ module _ {M : Type 0} (answer : M → Meaning) where
   given_sound : (event : LocalEvent) (application : Application M) → RunsSound application → RunsSound (delivered event (passed answer event.moment application))
   given_sound event application sound = (stays_sound answer).delivered event (passed answer event.moment application) (passed_sound event.moment application sound)
 
-  events_sound : (spec : Spec M) (routed : List LocalEvent) → RunsSound (after_events answer spec routed)
+  pub events_sound : (spec : Spec M) (routed : List LocalEvent) → RunsSound (after_events answer spec routed)
   events_sound spec [] = (stays_sound answer).started 0 spec.script (fresh spec) ((stays_sound answer).fresh spec refl)
   events_sound spec (event ∷ earlier) =
       let before = passed answer event.moment (after_events answer spec earlier) in
@@ -48,7 +48,7 @@ module _ {M : Type 0} (answer : M → Meaning) where
 
   -- ── the same ──
 
-  module _ (update : Update) (is_update : IsUpdate update) (settle : Continuation) (meets : IsSettle update settle) where
+  module _ (update : Update) (is_update : IsUpdate update) (settle : Action) (meets : IsSettle update settle) where
     at_same : (moment : ℕ) (application : Application M) → RunsSound application → at_moment answer moment application ≡ at_moment_by answer settle moment application
     at_same moment application sound = by (next_due application)
       where
@@ -60,13 +60,13 @@ module _ {M : Type 0} (answer : M → Meaning) where
         by None = refl
         by (Some due) = by_test (nat_eq due moment)
 
-    passed_same : (last : ℕ) (application : Application M) → RunsSound application → passed answer last application ≡ passed_by answer settle last application
+    pub passed_same : (last : ℕ) (application : Application M) → RunsSound application → passed answer last application ≡ passed_by answer settle last application
     unfolding passed_by
     passed_same zero application sound = at_same 0 application sound
     passed_same (suc last) application sound =
         at_same (suc last) (passed answer last application) (passed_sound last application sound) ∙ ap (at_moment_by answer settle (suc last)) (passed_same last application sound)
 
-    events_same : (spec : Spec M) (routed : List LocalEvent) → after_events answer spec routed ≡ after_events_by answer update settle spec routed
+    pub events_same : (spec : Spec M) (routed : List LocalEvent) → after_events answer spec routed ≡ after_events_by answer update settle spec routed
     events_same spec [] = (by_settle answer).started update is_update settle meets 0 spec.script (fresh spec) ((stays_sound answer).fresh spec refl)
     events_same spec (event ∷ earlier) =
         let before = after_events answer spec earlier in

@@ -11,7 +11,7 @@ use Rattle.tk_app.specs.Seen.{Meaning}
 use Rattle.tk_app.specs.Spec.{Spec}
 use Rattle.tk_host.specs.AloneByJob.{after_events, passed}
 use Rattle.tk_host.specs.FirstFormat.{AloneWithoutRefills, after_events_without_refills, after_event_without_refills, given_as}
-use Rattle.tk_host.specs.Used.{before_event}
+use Rattle.tk_host.specs.UsedByJob.{before_event}
 use Rattle.tk_host.proofs.Used.{Fits, fits_before}
 
 none_granted : (budget : Budget) (steps : ℕ) → budget.refill ≡ 0 → steps ≤ budget.total → granted budget steps ≡ steps

@@ -19,3 +19,4 @@ mod Settling
 mod Slots
 mod Ways
 pub mod Used
+pub mod UsedBySettle

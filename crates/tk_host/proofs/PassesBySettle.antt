@@ -2,7 +2,7 @@
 use Rattle.std.proofs.Common.{◌≡◌, ℕ, sym, ◌∙◌, subst}
 use Rattle.tk_app.specs.Application.{Application, next_due}
 use Rattle.tk_app.specs.Commands.{Update}
-use Rattle.tk_app.specs.Dispatch.{Continuation}
+use Rattle.tk_app.specs.Dispatch.{Action}
 use Rattle.tk_app.specs.Moments.{settled_by}
 use Rattle.tk_app.specs.MomentsByJob.{settled}
 use Rattle.tk_app.specs.Seen.{Meaning}
@@ -16,7 +16,7 @@ use Rattle.tk_host.proofs.BySettle.{passed_by_settle}
 use Rattle.tk_host.proofs.Relation.{passed_passes}
 
 module _ {M : Type 0} (answer : M → Meaning) where
-  module _ (update : Update) (is_update : IsUpdate update) (settle : Continuation) (meets : IsSettle update settle) where
+  module _ (update : Update) (is_update : IsUpdate update) (settle : Action) (meets : IsSettle update settle) where
     same : (moment : ℕ) (application : Application M) → RunsSound application → settled answer moment application ≡ settled_by answer settle moment application
     same moment application sound = (by_settle answer).settled update is_update settle meets moment application sound
 

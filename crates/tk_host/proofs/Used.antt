@@ -20,7 +20,7 @@ use Rattle.tk_app.proofs.Parts.{begins_with_script, settles_from_rest}
 use Rattle.tk_app.proofs.Slices.{done_within}
 use Rattle.tk_host.specs.Alone.{passed_by}
 use Rattle.tk_host.specs.AloneByJob.{after_events, alone, at_moment, passed}
-use Rattle.tk_host.specs.Used.{AllWithin, UsedAndLeft, before_event, granted_to, used, used_for}
+use Rattle.tk_host.specs.UsedByJob.{AllWithinByJob, UsedAndLeftByJob, before_event, granted_to, used, used_for}
 
 -- the budget stays, and steps only fall
 record Keeps {M : Type 0} (before after : Application M) : Type 0 where
@@ -147,7 +147,7 @@ module _ {M : Type 0} (answer : M → Meaning) where
       let more : suc (length earlier) * refill ≡ length earlier * refill + refill = suc-mul (length earlier) refill in
       omega (arith, granted_most spec earlier, given.most, given.more, more)
 
-  pub used_and_left_holds : UsedAndLeft answer
+  pub used_and_left_holds : UsedAndLeftByJob answer
   used_and_left_holds spec routed last =
       let way = passed_keeps last (after_events answer spec routed) in
       (omega (arith, left_for spec routed, way.steps), granted_most spec routed)
@@ -158,7 +158,7 @@ module _ {M : Type 0} (answer : M → Meaning) where
   sum_within f g each [] = omega arith
   sum_within f g each (x ∷ xs) = omega (arith, each x, sum_within f g each xs, sum_by-cons f x xs, sum_by-cons g x xs)
 
-  pub all_within_holds : AllWithin answer
+  pub all_within_holds : AllWithinByJob answer
   all_within_holds specs routed last =
       sum_within (λ (numbered : ℕ × Spec M). used answer numbered.1 (routed numbered.0) last)
       (λ (numbered : ℕ × Spec M). numbered.1.budget.total + granted_to answer numbered.1 (routed numbered.0))

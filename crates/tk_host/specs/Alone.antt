@@ -3,7 +3,7 @@ use Rattle.std.specs.Prelude.{ℕ, zero, suc, List, [], ◌∷◌}
 use Rattle.tk_base.specs.declared.local_event.LocalEvent.{LocalEvent}
 use Rattle.tk_app.specs.Application.{Application, fresh, next_due}
 use Rattle.tk_app.specs.Commands.{Update}
-use Rattle.tk_app.specs.Dispatch.{Continuation}
+use Rattle.tk_app.specs.Dispatch.{Action}
 use Rattle.tk_app.specs.Moments.{delivered, settled_by, started_by}
 use Rattle.tk_app.specs.Seen.{Meaning}
 use Rattle.tk_app.specs.Spec.{Spec}
@@ -11,7 +11,7 @@ use Rattle.tk_app.specs.Due.{settled_if_due_at}
 
 module _ {M : Type 0} (answer : M → Meaning) where
   -- by what *Settle* is
-  module _ (settle : Continuation) where
+  module _ (settle : Action) where
     -- a moment has come: where something of the application's own is due then, what is to be done then has been done
     abbrev pub at_moment_by : ℕ → Application M → Application M
     at_moment_by moment application = settled_if_due_at next_due (settled_by answer settle) moment application
@@ -27,7 +27,7 @@ module _ {M : Type 0} (answer : M → Meaning) where
     after_event_by event application = settled_by answer settle event.moment (delivered event application)
 
   -- by what `update` and *Settle* are
-  module _ (update : Update) (settle : Continuation) where
+  module _ (update : Update) (settle : Action) where
     -- An application by itself: its script and what comes of it at moment 0, and then the events that are routed to it. They stand with the newest
     -- first; before each come the moments up to the event's.
     abbrev pub after_events_by : Spec M → List LocalEvent → Application M

@@ -17,3 +17,4 @@ pub mod Slots
 pub mod Spec
 pub mod Turns
 pub mod Used
+pub mod UsedByJob

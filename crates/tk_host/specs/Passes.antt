@@ -2,7 +2,7 @@
 use Rattle.std.specs.Prelude.{◌≡◌, ◌≤◌, ◌↔◌, ℕ, Option, Some}
 use Rattle.tk_app.specs.Application.{Application, next_due}
 use Rattle.tk_app.specs.Commands.{Update}
-use Rattle.tk_app.specs.Dispatch.{Continuation}
+use Rattle.tk_app.specs.Dispatch.{Action}
 use Rattle.tk_app.specs.Due.{IsPast}
 use Rattle.tk_app.specs.Moments.{settled_by}
 use Rattle.tk_app.specs.Seen.{Meaning}
@@ -19,6 +19,6 @@ pub data Passes {P : Type 0} (next_due : P → Option ℕ) (settled : ℕ → P 
 
 -- An application whose windows are numbered as they were made passes to what *Alone* says, and to nothing else.
 abbrev pub PassesBySettle : {M : Type 0} (answer : M → Meaning) → Type 0
-PassesBySettle {M} answer = (update : Update) → IsUpdate update → (settle : Continuation) → IsSettle update settle
+PassesBySettle {M} answer = (update : Update) → IsUpdate update → (settle : Action) → IsSettle update settle
     → (last : ℕ) (application after : Application M) → RunsSound application
     → Passes next_due (settled_by answer settle) last application after ↔ (passed_by answer settle last application ≡ after)

@@ -8,7 +8,7 @@ use Rattle.tk_base.specs.declared.local_event.LocalEvent.{LocalEvent}
 use Rattle.tk_route.specs.Lines.{Line}
 use Rattle.tk_route.specs.Routes.{routed}
 use Rattle.tk_app.specs.Commands.{Update}
-use Rattle.tk_app.specs.Dispatch.{Continuation}
+use Rattle.tk_app.specs.Dispatch.{Action}
 use Rattle.tk_app.specs.Part.{Part}
 use Rattle.tk_app.specs.Section.{section}
 use Rattle.tk_app.specs.Seen.{Meaning}
@@ -27,8 +27,8 @@ use Rattle.tk_session.specs.Session.{Plan, newest_first, rects_of}
 use Rattle.tk_session.specs.declared.session.AppBlock.{AppBlock}
 use Rattle.tkhost.specs.Calls.{calls_of, sections_from}
 use Rattle.tk_host.proofs.BySettle.{alone_by_settle}
-use Rattle.tkhost.specs.Play.{Serve, sections_by, spec_of, specs_of}
-use Rattle.tkhost.specs.Sections.{SameBytes, sections_of}
+use Rattle.tkhost.specs.Play.{SameBytes, Serve, sections_by, spec_of, specs_of}
+use Rattle.tkhost.specs.Sections.{sections_of}
 use Rattle.tkhost.proofs.Adds.{givens, givens-rects}
 use Rattle.tkhost.proofs.Happens.{held-played}
 
@@ -89,7 +89,7 @@ module _ {M : Type 0} (answer : M → Meaning) where
 
   -- ── by the equations of `update` and *Settle* ──
 
-  module _ (update : Update) (is_update : IsUpdate update) (settle : Continuation) (meets : IsSettle update settle) where
+  module _ (update : Update) (is_update : IsUpdate update) (settle : Action) (meets : IsSettle update settle) where
     same_in : (plan : Plan) (specs : List (ℕ × Spec M))
         → map (λ (numbered : ℕ × Spec M). section (alone answer numbered.1 (routed (rects_of plan.apps) (newest_first plan.events) numbered.0) plan.end)) specs
         ≡ map (λ (numbered : ℕ × Spec M). section (alone_by answer update settle numbered.1 (routed (rects_of plan.apps) (newest_first plan.events) numbered.0) plan.end)) specs
@@ -106,17 +106,20 @@ module _ {M : Type 0} (answer : M → Meaning) where
 
   -- ── two sessions ──
 
-  section_at : (end : ℕ) (first : List Rect) (lines : List Line) (slot from i : ℕ) (specs : List (Spec M)) (spec : Spec M) → from + i ≡ slot → slice_get specs i ≡ Some spec
-      → slice_get (sections_from answer end first lines from specs) i ≡ Some (section (alone answer spec (routed first lines slot) end))
-  section_at end first lines slot from i [] spec at is = absurd (none-some spec is)
-  section_at end first lines slot from zero (own ∷ specs) spec at is =
-      let here : from ≡ slot = omega (arith, at) in
-      ap (λ n. Some (section (alone answer own (routed first lines n) end))) here ∙ ap (λ s. Some (section (alone answer s (routed first lines slot) end))) (same_Some own spec is)
-  section_at end first lines slot from (suc i) (own ∷ specs) spec at is = section_at end first lines slot (from + 1) i specs spec (omega (arith, at)) is
+  -- the section of an application that is there
+  section_at : (of : ℕ × Spec M → List ℕ) (slot from i : ℕ) (specs : List (Spec M)) (spec : Spec M) → from + i ≡ slot → slice_get specs i ≡ Some spec
+      → slice_get (map of (enumerate_from from specs)) i ≡ Some (of (slot, spec))
+  section_at of slot from i [] spec at is = absurd (none-some spec is)
+  section_at of slot from zero (own ∷ specs) spec at is =
+      let here : from ≡ slot = omega (arith, at) in ap (λ (n : ℕ). Some (of (n, own))) here ∙ ap (λ (s : Spec M). Some (of (slot, s))) (same_Some own spec is)
+  section_at of slot from (suc i) (own ∷ specs) spec at is = section_at of slot (from + 1) i specs spec (omega (arith, at)) is
 
-  pub same_bytes_holds : SameBytes answer
-  same_bytes_holds plan other lists others slot other_slot spec is there end same =
-      section_at plan.end (rects_of plan.apps) (newest_first plan.events) slot 0 slot (specs_of plan.apps lists) spec (omega arith) is
-      ∙ ap (λ n. Some (section (alone answer spec (routed (rects_of plan.apps) (newest_first plan.events) slot) n))) end
-      ∙ ap (λ (events : List LocalEvent). Some (section (alone answer spec events other.end))) same
-      ∙ sym (section_at other.end (rects_of other.apps) (newest_first other.events) other_slot 0 other_slot (specs_of other.apps others) spec (omega arith) there)
+  pub same_bytes_holds : (update : Update) (settle : Action) → SameBytes answer update settle
+  same_bytes_holds update settle plan other lists others slot other_slot spec is there end same =
+      section_at (λ (numbered : ℕ × Spec M). section (alone_by answer update settle numbered.1 (routed (rects_of plan.apps) (newest_first plan.events) numbered.0) plan.end)) slot 0 slot
+      (specs_of plan.apps lists) spec (omega arith) is
+      ∙ ap (λ (n : ℕ). Some (section (alone_by answer update settle spec (routed (rects_of plan.apps) (newest_first plan.events) slot) n))) end
+      ∙ ap (λ (events : List LocalEvent). Some (section (alone_by answer update settle spec events other.end))) same
+      ∙ sym
+      (section_at (λ (numbered : ℕ × Spec M). section (alone_by answer update settle numbered.1 (routed (rects_of other.apps) (newest_first other.events) numbered.0) other.end)) other_slot 0
+      other_slot (specs_of other.apps others) spec (omega arith) there)

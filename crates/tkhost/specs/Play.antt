@@ -5,7 +5,7 @@ use Rattle.tk_route.specs.Routes.{routed}
 use Rattle.tk_alias.specs.Replies.{IsReply}
 use Rattle.tk_alias.specs.declared.reply.AliasReply.{AliasReply}
 use Rattle.tk_app.specs.Commands.{Update}
-use Rattle.tk_app.specs.Dispatch.{Continuation}
+use Rattle.tk_app.specs.Dispatch.{Action}
 use Rattle.tk_app.specs.Section.{section}
 use Rattle.tk_app.specs.Seen.{Meaning, names_of}
 use Rattle.tk_app.specs.Spec.{Spec}
@@ -52,7 +52,7 @@ module _ {M : Type 0} where
 
 module _ {M : Type 0} (answer : M → Meaning) where
   -- by what `update` and *Settle* are
-  module _ (update : Update) (settle : Continuation) where
+  module _ (update : Update) (settle : Action) where
     -- The section of each application of a session, in their order: that of the application by itself, with its own aliases and the events that are
     -- routed to its slot, up to the session's end.
     abbrev pub sections_in_by : Plan → List (List (List ℕ × M)) → List (List ℕ)
@@ -63,3 +63,12 @@ module _ {M : Type 0} (answer : M → Meaning) where
     -- and what is written of them: these one after another, and nothing else
     abbrev pub sections_by : Plan → List (List (List ℕ × M)) → List ℕ
     sections_by plan lists = flat_map (λ bytes. bytes) (sections_in_by plan lists)
+
+    -- Two sessions that end at the same moment, and have an application each with the same spec, be it in two places, to which the same events are
+    -- routed, give it the same bytes, whatever else they say.
+    abbrev pub SameBytes : Type 0
+    SameBytes =
+        (plan other : Plan) (lists others : List (List (List ℕ × M))) (slot other_slot : ℕ) (spec : Spec M)
+        → slice_get (specs_of plan.apps lists) slot ≡ Some spec → slice_get (specs_of other.apps others) other_slot ≡ Some spec → plan.end ≡ other.end
+        → routed (rects_of plan.apps) (newest_first plan.events) slot ≡ routed (rects_of other.apps) (newest_first other.events) other_slot
+        → slice_get (sections_in_by plan lists) slot ≡ slice_get (sections_in_by other others) other_slot

@@ -1,14 +1,16 @@
 //! What a session comes to. The functions do nothing: their contracts are the laws.
 ghost use Rattle.tkhost.specs.Bounds.{SessionWithin};
 ghost use Rattle.tkhost.specs.FirstFormat.{FirstFormatSections};
-ghost use Rattle.tkhost.specs.Sections.{SameBytes};
+ghost use Rattle.tk_app.specs.Commands.{Update};
+ghost use Rattle.tk_app.specs.Dispatch.{Action};
+ghost use Rattle.tkhost.specs.Play.{SameBytes};
 
 use tk_host::AliasMeaning;
 
 /// The bytes of an application in the output rest on its own name, size, script, budget and aliases, on the events that are routed to it, and on
 /// the moment of the end: two sessions that agree on these give it the same bytes.
 pub fn same_bytes<M: AliasMeaning>()
-    ensures { SameBytes M.answer }
+    ensures { (update : Update) (settle : Action) → SameBytes M.answer update settle }
 {}
 
 /// A session takes at most the sum of the totals of its applications and of the steps that events grant them.

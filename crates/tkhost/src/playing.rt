@@ -10,7 +10,7 @@ ghost use Rattle.tk_session.specs.Session.{AreAllowed, rects_of};
 ghost use Rattle.tkhost.specs.Output.{AppendsFront};
 ghost use Rattle.tkhost.specs.Calls.{adding, given_of, lining};
 ghost use Rattle.tk_app.specs.Commands.{Update};
-ghost use Rattle.tk_app.specs.Dispatch.{Continuation};
+ghost use Rattle.tk_app.specs.Dispatch.{Action};
 ghost use Rattle.tk_app.specs.Settle.{IsSettle, IsUpdate};
 ghost use Rattle.tkhost.specs.Play.{Serve, sections_by};
 ghost use Rattle.tkhost.specs.Sections.{sections_of};
@@ -225,7 +225,7 @@ pub fn play<M: AliasService, W: Write>(
 ) -> Result<(), PlayFault>
     requires slice { 1 ≤ slice }
     requires serve { Serve session.now.apps aliases.items }
-    ensures sections { (update : Update) → IsUpdate update → (settle : Continuation) → IsSettle update settle
+    ensures sections { (update : Update) → IsUpdate update → (settle : Action) → IsSettle update settle
         → OnOk result (Appends (W.contents writer.old) (W.contents writer.new) (sections_by M.answer update settle session.now aliases.items)) }
     ensures by_job { OnOk result (Appends (W.contents writer.old) (W.contents writer.new) (sections_of M.answer session.now aliases.items)) }
     ensures write { result ≡ Err PlayFault.Write

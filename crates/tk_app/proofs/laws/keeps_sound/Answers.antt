@@ -1,5 +1,5 @@
-use Rattle.tk_app.proofs.ByUpdate.{keeps_sound}
+use Rattle.tk_app.proofs.ByUpdate.{keeps_sound, scripts_keep_sound}
 use Rattle.tk_app.proofs.laws.keeps_sound.Goals as goal
 
 pub returns : goal.returns
-returns c = keeps_sound
+returns c = record { scripts = scripts_keep_sound; jobs = keeps_sound }

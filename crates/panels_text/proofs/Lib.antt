@@ -8,3 +8,4 @@ pub mod RowLemmas
 pub mod ScriptLemmas
 pub mod TableLemmas
 pub mod Turns
+pub mod UnreadLemmas

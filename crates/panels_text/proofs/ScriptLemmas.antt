@@ -2,12 +2,12 @@
 use Rattle.std.proofs.Common.{◌≡◌, ℕ, Bool, get_or, zero, suc, ◌+◌, ◌-◌, ◌<◌, List, [], ◌∷◌, ◌++◌, length, drop, reverse, Option, Some, None, map, option_map, slice_get, refl, sym, ap, subst, ◌∙◌, append_assoc, string_bytes, arith}
 use Rattle.std.proofs.lemmas.List.{append-nil, drop_more, reverse-append}
 use Rattle.std.proofs.lemmas.Option.{slice_get-map}
-use Rattle.std.specs.Prelude.{String}
+use Rattle.std.specs.Prelude.{String, flat_map}
 use Rattle.std.specs.declared.alloc.Global.{Global}
 use Rattle.panels_text.specs.Asking.{Asks, pair, pairs}
 use Rattle.panels_text.specs.Roles.{Texts, text_or_empty, texts_of, word_at}
 use Rattle.panels_text.specs.Runners.{Runs, better, runner_in, runs_in}
-use Rattle.panels_text.specs.Scripts.{Passage, Said, inner_as, said, said_as, said_in}
+use Rattle.panels_text.specs.Scripts.{Passage, Said, inner_as, passages_in, said}
 use Rattle.panels_text.specs.declared.calls.Call.{Call}
 
 -- the text of a word that is there, and of one that isn't
@@ -17,39 +17,40 @@ word_found words index word is = sym (ap text_or_empty (slice_get-map (option_ma
 pub word_missing : (words : List (Option (String Global))) (index : ℕ) → slice_get words index ≡ None → [] ≡ word_at (texts_of words) index
 word_missing words index is = sym (ap text_or_empty (slice_get-map (option_map string_bytes) words index ∙ ap (option_map (option_map string_bytes)) is))
 
-said_none : (most : ℕ) → said_in most [] ≡ []
-unfolding said_in
-said_none zero = refl
-said_none (suc most) = refl
+passages_none : (most : ℕ) → passages_in most [] ≡ []
+unfolding passages_in
+passages_none zero = refl
+passages_none (suc most) = refl
 
--- no body is left
-pub said_end : (most : ℕ) (calls : List Said) (stack : List Passage) (all : List Said) → stack ≡ [] → calls ++ said_in most (reverse stack) ≡ all → calls ≡ all
-said_end most calls stack all none same =
-    let P : List Passage → Type 0 = λ left. calls ++ said_in most (reverse left) ≡ all in
-    sym (append-nil calls) ∙ (ap (λ rest. calls ++ rest) (sym (said_none most)) ∙ subst P none same)
+-- what is told of each passage that is read: no body is left
+pub told_end : {A : Type 0} (f : Passage → List A) (most : ℕ) (told : List A) (stack : List Passage) (all : List A) → stack ≡ [] → told ++ flat_map f (passages_in most (reverse stack)) ≡ all → told ≡ all
+told_end f most told stack all none same =
+    let P : List Passage → Type 0 = λ left. told ++ flat_map f (passages_in most (reverse left)) ≡ all in
+    let empty : [] ≡ flat_map f (passages_in most []) = ap (flat_map f) (sym (passages_none most)) in
+    sym (append-nil told) ∙ (ap (λ rest. told ++ rest) empty ∙ subst P none same)
 
 -- as many were read as are read at most
-pub said_full : (most i : ℕ) (calls : List Said) (stack : List Passage) (all : List Said) → i ≡ most → calls ++ said_in (most - i) stack ≡ all → calls ≡ all
-unfolding said_in
-said_full most i calls stack all is same =
+pub told_full : {A : Type 0} (f : Passage → List A) (most i : ℕ) (told : List A) (stack : List Passage) (all : List A) → i ≡ most → told ++ flat_map f (passages_in (most - i) stack) ≡ all → told ≡ all
+unfolding passages_in
+told_full f most i told stack all is same =
     let none : most - i ≡ 0 = omega arith in
-    let P : ℕ → Type 0 = λ n. calls ++ said_in n stack ≡ all in
-    sym (append-nil calls) ∙ subst P none same
+    let P : ℕ → Type 0 = λ n. told ++ flat_map f (passages_in n stack) ≡ all in
+    sym (append-nil told) ∙ subst P none same
 
 -- one body more
-pub said_more : (most i : ℕ) (calls next : List Said) (stack popped after : List Passage) (first : Passage) (all : List Said) → i < most → stack ≡ popped ++ first ∷ [] → after ≡ popped ++ inner_as first.form first
-    → next ≡ calls ++ said_as first.form first → calls ++ said_in (most - i) (reverse stack) ≡ all → next ++ said_in (most - (i + 1)) (reverse after) ≡ all
-unfolding said_in
-said_more most i calls next stack popped after first all lt is grown told same =
+pub told_more : {A : Type 0} (f : Passage → List A) (most i : ℕ) (told next : List A) (stack popped after : List Passage) (first : Passage) (all : List A) → i < most → stack ≡ popped ++ first ∷ []
+    → after ≡ popped ++ inner_as first.form first → next ≡ told ++ f first → told ++ flat_map f (passages_in (most - i) (reverse stack)) ≡ all → next ++ flat_map f (passages_in (most - (i + 1)) (reverse after)) ≡ all
+unfolding passages_in
+told_more f most i told next stack popped after first all lt is grown one same =
     let left : most - i ≡ suc (most - (i + 1)) = omega arith in
     let top : reverse stack ≡ first ∷ reverse popped = ap reverse is ∙ reverse-append popped (first ∷ []) in
     let under : reverse after ≡ reverse (inner_as first.form first) ++ reverse popped = ap reverse grown ∙ reverse-append popped (inner_as first.form first) in
-    let P : ℕ → Type 0 = λ n. calls ++ said_in n (reverse stack) ≡ all in
-    let Q : List Passage → Type 0 = λ passages. calls ++ said_in (suc (most - (i + 1))) passages ≡ all in
-    let here : calls ++ (said_as first.form first ++ said_in (most - (i + 1)) (reverse (inner_as first.form first) ++ reverse popped)) ≡ all = subst Q top (subst P left same) in
-    ap (λ front. front ++ said_in (most - (i + 1)) (reverse after)) told
-    ∙ ap (λ passages. (calls ++ said_as first.form first) ++ said_in (most - (i + 1)) passages) under
-    ∙ append_assoc calls (said_as first.form first) (said_in (most - (i + 1)) (reverse (inner_as first.form first) ++ reverse popped))
+    let P : ℕ → Type 0 = λ n. told ++ flat_map f (passages_in n (reverse stack)) ≡ all in
+    let Q : List Passage → Type 0 = λ passages. told ++ flat_map f (passages_in (suc (most - (i + 1))) passages) ≡ all in
+    let here : told ++ (f first ++ flat_map f (passages_in (most - (i + 1)) (reverse (inner_as first.form first) ++ reverse popped))) ≡ all = subst Q top (subst P left same) in
+    ap (λ front. front ++ flat_map f (passages_in (most - (i + 1)) (reverse after))) one
+    ∙ ap (λ passages. (told ++ f first) ++ flat_map f (passages_in (most - (i + 1)) passages)) under
+    ∙ append_assoc told (f first) (flat_map f (passages_in (most - (i + 1)) (reverse (inner_as first.form first) ++ reverse popped)))
     ∙ here
 
 -- options with their values, from one on

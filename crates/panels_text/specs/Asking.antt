@@ -1,6 +1,6 @@
 -- Meaning. What a script names by literal words, as commands to be tried.
 use Rattle.std.specs.Prelude.{ℕ, ◌+◌, ◌-◌, Bool, true, false, not, ◌&&◌, ◌||◌, ◌==◌, nat_lt, nat_le, nat_eq, if◌then◌else◌, List, [], ◌∷◌, ◌++◌, map, flat_map, length, drop, take, is_some, codes, Option, Some, None, String, option_map}
-use Rattle.std.specs.List.{list_all, starts_with}
+use Rattle.std.specs.List.{list_all, list_any, starts_with}
 use Rattle.std.specs.Option.{option_to_list, unwrap_or}
 use Rattle.std.specs.Str.{bytes_eq, trim}
 use Rattle.std.specs.String.{string_bytes}
@@ -160,20 +160,19 @@ window_of windows path = if bytes_eq path (codes ".") then Some (codes ".") else
 abbrev pub name_asked : List (List ℕ × List ℕ) → List ℕ → Option (List ℕ)
 name_asked windows name = if starts_with nat_eq name (codes ".") then window_of windows name else Some name
 
+abbrev pub unasked : List (List ℕ)
+unasked = codes "destroy" ∷ codes "rename" ∷ codes "proc" ∷ codes "eval" ∷ codes "uplevel" ∷ codes "while" ∷ codes "for" ∷ []
+
+abbrev pub has_name : List (List ℕ) → List ℕ → Bool
+has_name names name = list_any (λ own. bytes_eq own name) names
+
 -- it would end the one that asks, or change its commands
 abbrev pub is_unasked : List ℕ → Bool
-is_unasked name =
-    bytes_eq name (codes "destroy")
-    || (bytes_eq name (codes "rename")
-    || (bytes_eq name (codes "proc") || (bytes_eq name (codes "eval") || (bytes_eq name (codes "uplevel") || (bytes_eq name (codes "while") || bytes_eq name (codes "for"))))))
+is_unasked name = list_any (λ own. bytes_eq name own) unasked
 
 abbrev pub asked_or_none : Said → Option (List ℕ) → List Asks
 asked_or_none call None = []
 asked_or_none call (Some name) = asked_by call name
-
-abbrev pub has_name : List (List ℕ) → List ℕ → Bool
-has_name [] name = false
-has_name (own ∷ others) name = bytes_eq own name || has_name others name
 
 -- the questions of a command, where the script has these commands and windows
 abbrev pub questions_of_call : List (List ℕ) → List (List ℕ × List ℕ) → Said → List Asks

@@ -2,6 +2,7 @@
 pub mod Asking
 pub mod CommandLine
 pub mod Differences
+pub mod Indents
 pub mod Keys
 pub mod Lines
 pub mod Meant
@@ -14,5 +15,6 @@ pub mod Runners
 pub mod Scripts
 pub mod Tables
 pub mod Texts
+pub mod Unread
 pub mod Verdicts
 pub mod Words

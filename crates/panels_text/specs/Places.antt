@@ -1,5 +1,5 @@
 -- Meaning. Places in files, and what is wrong there.
-use Rattle.std.specs.Prelude.{◌≡◌, ℕ, ◌+◌, Bool, false, ◌==◌, if◌then◌else◌, List, [], ◌∷◌, ◌++◌, length, map, filter, find, take, drop, slice_get, codes, nat_eq, Option, Some, None}
+use Rattle.std.specs.Prelude.{◌≡◌, ℕ, ◌+◌, ◌-◌, ◌^◌, min, Bool, false, ◌==◌, if◌then◌else◌, List, [], ◌∷◌, ◌++◌, length, map, filter, find, take, drop, slice_get, codes, nat_eq, Option, Some, None}
 use Rattle.std.specs.Fmt.{decimal}
 use Rattle.std.specs.List.{enumerate_from, starts_with}
 use Rattle.std.specs.Str.{bytes_eq, trim}
@@ -11,6 +11,15 @@ use Rattle.panels_text.specs.declared.failure.Failure.TheVariants.{Said, NoMemor
 -- how many lines end in a text
 abbrev pub count_breaks : List ℕ → ℕ
 count_breaks text = length (filter (λ byte. byte == 10) text)
+
+-- the number of the line behind one, as far as numbers go
+abbrev pub later_line : ℕ → ℕ
+later_line number = min (number + 1) (2 ^ 64 - 1)
+
+-- lines with their numbers, of which this is the first
+abbrev pub numbered : {A : Type 0} → ℕ → List A → List (ℕ × A)
+numbered number [] = []
+numbered number (line ∷ lines) = (number, line) ∷ numbered (later_line number) lines
 
 -- the number of the line in which a byte stands, from 1 on
 abbrev pub line_at : List ℕ → ℕ → ℕ

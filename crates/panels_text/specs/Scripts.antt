@@ -217,16 +217,20 @@ inner_as Commands outer = flat_map (inner_of_command outer) (commands_in outer.t
 inner_as Condition outer = brackets_in outer.line outer.text
 inner_as Cases outer = flat_map (λ (command : Command). inner_of_cases 0 outer command.words) (commands_in outer.text)
 
--- the commands of passages, so many of them at most: of the first, then of those in it, the last of them first, and then of the others
-unfoldable pub said_in : ℕ → List Passage → List Said
-said_in zero passages = []
-said_in (suc most) [] = []
-said_in (suc most) (first ∷ others) = said_as first.form first ++ said_in most (reverse (inner_as first.form first) ++ others)
+-- the passages that are read, so many of them at most: the first, then those in it, the last of them first, and then the others
+unfoldable pub passages_in : ℕ → List Passage → List Passage
+passages_in zero passages = []
+passages_in (suc most) [] = []
+passages_in (suc most) (first ∷ others) = first ∷ passages_in most (reverse (inner_as first.form first) ++ others)
 
 -- how many bodies of a script are read
 abbrev pub most_bodies : ℕ
 most_bodies = 100000
 
+-- those of a script
+abbrev pub passages_of : List ℕ → List Passage
+passages_of script = passages_in most_bodies (passage Commands 1 script ∷ [])
+
 -- the commands of a script
 abbrev pub calls_of : List ℕ → List Said
-calls_of script = said_in most_bodies (passage Commands 1 script ∷ [])
+calls_of script = flat_map (λ (outer : Passage). said_as outer.form outer) (passages_of script)

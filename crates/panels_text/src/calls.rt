@@ -1,9 +1,10 @@
 //! The commands of a script, those of its bodies too, as they are written.
 
-ghost use Rattle.std.specs.Prelude.{◌≡◌, ◌++◌, ◌∷◌, [], flat_map, length, map, option_map, unwrap_or, IfNone, IfOk, IfSome, OnOk};
+ghost use Rattle.std.specs.Prelude.{◌≡◌, ◌++◌, ◌∷◌, [], flat_map, length, map, option_map, unwrap_or, is_some, IfNone, IfOk, IfSome, OnOk};
 ghost use Rattle.std.specs.String.{string_bytes};
 ghost use Rattle.panels_text.specs.Roles.{texts_of};
 ghost use Rattle.panels_text.specs.Scripts.{between, body_of, brackets_in, calls_of, commands_in, form_of, inner_as, inner_as_form, inner_by, inner_of, inner_of_cases, inner_of_command, inner_of_words, is_case_body, is_open, line_of, literal, only_literal, passage_of, piece_text, said, said_as, said_by, source_of, without_ends, without_plus, written, written_as};
+ghost use Rattle.panels_text.specs.Unread.{is_readable, misread, unread_as, unread_of};
 ghost use Rattle.panels_text.specs.declared.calls.Form.TheVariants.{Cases, Commands};
 
 use crate::brackets::brackets_of;
@@ -374,6 +375,7 @@ fn push_all_cases(
 fn script_of(alloc: Global, text: &[u8]) -> Result<Option<Script>, AllocError>
     ensures some { IfOk result (λ found. IfSome found (λ script. script ≡ text.now)) }
     ensures none { IfOk result (λ found. IfNone found (commands_in text.now ≡ [])) }
+    ensures readable { IfOk result (λ found. is_some found ≡ is_readable text.now) }
 {
     match parse(alloc, text) {
         Ok(script) => Ok(Some(script)),
@@ -397,6 +399,7 @@ fn push_commands(
     bodies: &mut Vec<Body>,
 ) -> Result<(), AllocError>
     ensures calls { OnOk result (map said found.new.calls.items ≡ map said found.old.calls.items ++ said_as Commands (passage_of body.now)) }
+    ensures unread { OnOk result (map misread found.new.unread.items ≡ map misread found.old.unread.items ++ unread_as Commands (passage_of body.now)) }
     ensures bodies { OnOk result (map passage_of bodies.new.items ≡ map passage_of bodies.old.items ++ inner_as Commands (passage_of body.now)) }
 {
     let text = body.text.as_slice();
@@ -428,6 +431,7 @@ fn push_said(
     bodies: &mut Vec<Body>,
 ) -> Result<(), AllocError>
     ensures calls { OnOk result (map said found.new.calls.items ≡ map said found.old.calls.items ++ said_as form (passage_of body.now)) }
+    ensures unread { OnOk result (map misread found.new.unread.items ≡ map misread found.old.unread.items ++ unread_as form (passage_of body.now)) }
     ensures bodies { OnOk result (map passage_of bodies.new.items ≡ map passage_of bodies.old.items ++ inner_as form (passage_of body.now)) }
 {
     match form {
@@ -437,9 +441,10 @@ fn push_said(
     }
 }
 
-/// The commands of a script and of all scripts in it that are literal.
+/// The commands of a script and of all scripts in it that are literal, and which of them can't be read.
 pub(crate) fn calls_of(alloc: Global, script: &str) -> Result<Calls, AllocError>
-    ensures { IfOk result (λ found. map said found.calls.items ≡ calls_of script.now) }
+    ensures calls { IfOk result (λ found. map said found.calls.items ≡ calls_of script.now) }
+    ensures unread { IfOk result (λ found. map misread found.unread.items ≡ unread_of script.now) }
 {
     let mut found = Calls {
         calls: Vec::new(alloc),

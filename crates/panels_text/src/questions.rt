@@ -8,6 +8,7 @@ ghost use Rattle.panels_text.specs.Asking.{asked, asked_as, asked_by, asked_or_n
 ghost use Rattle.panels_text.specs.Meant.{beside};
 ghost use Rattle.panels_text.specs.Roles.{text_or_empty, texts_of};
 ghost use Rattle.panels_text.specs.Scripts.{calls_of, said};
+ghost use Rattle.panels_text.specs.Unread.{misread, unread_of};
 ghost use Rattle.panels_text.specs.Words.{words_of};
 
 use crate::calls::{Call, Unread, calls_of};
@@ -539,6 +540,7 @@ fn questions_in(
 pub fn questions_of(alloc: Global, script: &str, served: &[&str]) -> Result<Questions, AllocError>
     ensures questions { IfOk result (λ found. map asks found.questions.items ≡ questions_of (words_of served.now) script.now) }
     ensures procedures { IfOk result (λ found. map string_bytes found.procedures.items ≡ procedures_in (words_of served.now) (calls_of script.now)) }
+    ensures unread { IfOk result (λ found. map misread found.unread.items ≡ unread_of script.now) }
 {
     let found = calls_of(alloc, script)?;
     let calls = found.calls.as_slice();

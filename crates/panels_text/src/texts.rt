@@ -66,6 +66,13 @@ pub fn lines_of<'a>(alloc: Global, text: &'a str) -> Result<Vec<&'a str>, AllocE
     text.split('\n').collect(alloc)
 }
 
+/// The same of bytes.
+pub(crate) fn byte_lines(alloc: Global, bytes: &[u8]) -> Result<Vec<&[u8]>, AllocError>
+    ensures { IfOk result (λ lines. map (λ line. line.now) lines.items ≡ lines_of bytes.now) }
+{
+    bytes.split(|byte| *byte == b'\n').collect(alloc)
+}
+
 /// Texts with a separator between neighbours.
 pub(crate) fn joined(alloc: Global, texts: &[&str], separator: &str) -> Result<String, AllocError>
     ensures { IfOk result (λ text. string_bytes text ≡ joined separator.now (map (λ other. other.now) texts.now)) }

@@ -1,1 +1,9 @@
+pub mod EntryLemmas
+pub mod KeyLemmas
+pub mod LineLemmas
+pub mod MessageLemmas
 pub mod PanelLemmas
+pub mod ShapeLemmas
+pub mod StandLemmas
+pub mod TableLemmas
+pub mod ValueLemmas

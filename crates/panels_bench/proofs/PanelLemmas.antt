@@ -1,14 +1,17 @@
 -- Lemmas on the panels of a bench.
-use Rattle.std.proofs.Common.{◌≡◌, ℕ, ◌+◌, ◌<◌, List, [], ◌∷◌, ◌++◌, length, get_or, drop, ap, subst, sym, append_assoc, ◌∙◌}
+use Rattle.std.proofs.Common.{◌≡◌, ℕ, ◌+◌, ◌<◌, List, [], ◌∷◌, ◌++◌, length, get_or, drop, Option, Some, None, refl, ap, subst, sym, append_assoc, ◌∙◌}
 use Rattle.std.proofs.lemmas.List.{drop_more, append-nil}
 use Rattle.toml.proofs.Views.{items_view-drop, view-Table}
-use Rattle.toml.specs.Data.{Data, Items, item, no_items}
+use Rattle.toml.specs.Data.{Data, Items, item, no_items, array, boolean, datetime, float, integer, string, table}
 use Rattle.toml.specs.View.{items_view, table_view, view}
 use Rattle.toml.specs.declared.value.Value.{Value, Table}
 use Rattle.tk_session.specs.declared.session.AliasLine.{AliasLine}
 use Rattle.tk_session.specs.declared.session.AppBlock.{AppBlock}
-use Rattle.panels_bench.specs.Panels.{AreAliases, ArePanels, IsAlias, IsPanel, IsSide}
+use Rattle.tk_session.specs.Reading.{◌>>=◌}
+use Rattle.panels_bench.specs.Panels.{AreAliases, ArePanels, IsAlias, IsPair, IsPanel, IsSide}
+use Rattle.panels_bench.specs.Values.{both, pair_in, pair_of}
 use Rattle.panels_bench.specs.declared.sides.Side.{Side}
+use Rattle.panels_text.specs.Tables.{number_in, values_of}
 use Rattle.panels_text.specs.declared.table.Part.{Part}
 
 -- what the tables that are left say stands behind what those before said
@@ -60,3 +63,33 @@ aliases_end values left aliases gone before =
     let P : Items → Type 0 = λ rest. AreAliases rest [] in
     let R : List AliasLine → Type 0 = λ all. AreAliases values all in
     subst R (append-nil aliases) (before [] (subst P (sym gone) tt))
+
+-- two numbers of an array
+pub pair_said : (most : ℕ) (value : Option Data) (items : Items) (pair : ℕ × ℕ) → values_of value ≡ Some items → Some pair ≡ pair_of most items → pair_in most value ≡ Some pair
+pair_said most value items pair there is = let P : Option Items → Type 0 = λ own. (own >>= pair_of most) ≡ Some pair in subst P (sym there) (sym is)
+
+pub pair_lacking : (most : ℕ) (value : Option Data) (items : Items) → values_of value ≡ Some items → None ≡ pair_of most items → pair_in most value ≡ None
+pair_lacking most value items there is = let P : Option Items → Type 0 = λ own. (own >>= pair_of most) ≡ None in subst P (sym there) (sym is)
+
+parts : (most : ℕ) (one other : Data) (x y : Option ℕ) (pair : ℕ × ℕ) → number_in most (Some one) ≡ x → number_in most (Some other) ≡ y → Some pair ≡ both x y → (number_in most (Some one) ≡ Some pair.0) × (number_in most (Some other) ≡ Some pair.1)
+parts most one other None y pair p q is = absurd (cc)
+parts most one other (Some x) None pair p q is = absurd (cc)
+parts most one other (Some x) (Some y) pair p q is =
+    let same : pair ≡ (x, y) = cc in
+    (p ∙ ap (λ (own : ℕ × ℕ). Some own.0) (sym same), q ∙ ap (λ (own : ℕ × ℕ). Some own.1) (sym same))
+
+pub pair_is : (most : ℕ) (value : Option Data) (items : Items) (pair : ℕ × ℕ) → values_of value ≡ Some items → Some pair ≡ pair_of most items → IsPair most value pair.0 pair.1
+pair_is most value no_items pair there is = absurd (cc)
+pair_is most value (item one no_items) pair there is = absurd (cc)
+pair_is most value (item one (item other (item third others))) pair there is = absurd (cc)
+pair_is most None (item one (item other no_items)) pair there is = absurd (cc)
+pair_is most (Some (array own)) (item one (item other no_items)) pair there is =
+    let same : own ≡ item one (item other no_items) = cc in
+    let P : Items → Type 0 = λ inner. IsPair most (Some (array inner)) pair.0 pair.1 in
+    subst P (sym same) (parts most one other (number_in most (Some one)) (number_in most (Some other)) pair refl refl is)
+pair_is most (Some (string own)) (item one (item other no_items)) pair there is = absurd (cc)
+pair_is most (Some (integer own)) (item one (item other no_items)) pair there is = absurd (cc)
+pair_is most (Some (float own)) (item one (item other no_items)) pair there is = absurd (cc)
+pair_is most (Some (boolean own)) (item one (item other no_items)) pair there is = absurd (cc)
+pair_is most (Some (datetime own)) (item one (item other no_items)) pair there is = absurd (cc)
+pair_is most (Some (table own)) (item one (item other no_items)) pair there is = absurd (cc)

@@ -1,13 +1,39 @@
 //! What a person does.
 
-use crate::sides::{rect, slot_named};
+ghost use Rattle.std.specs.Prelude.{◌≡◌, ◌∷◌, [], codes, map, option_map, IfOk};
+ghost use Rattle.panels_bench.specs.Gestures.{LinesDeed, aim, aim_in, deed, deeds_at, deeds_by, deeds_in, drag_in, dropping_in, focus_in, focus_of, line_in, line_of, of_panels, placing_in, placing_of, pointing_in, presses, struck_in, touch_in, typed_in};
+ghost use Rattle.panels_bench.specs.Values.{Says, all_said, counted, table_if};
+ghost use Rattle.panels_text.specs.Tables.{value_of};
+ghost use Rattle.panels_text.specs.Words.{words_of};
+ghost use Rattle.toml.specs.View.{table_view};
+
+use crate::sides::{rect, slot_by, slot_named};
 use crate::typing::{struck, typed};
-use panels::{Bench, Gesture, Pointing, Target, Touch};
+use crate::values::{counted, flag_if, number_if, text_if, text_in};
+use panels::{Gesture, Pointing, Target, Touch};
 use panels_text::{Failure, Part};
 use std::alloc::{AllocError, Global};
-use tk_base::Rect;
 use tk_session::{AppBlock, HostLine, read_event};
 use toml::Value;
+
+/// How a key says what is done.
+#[derive(Clone, Copy)]
+enum Way {
+    /// The pointer comes to a window, and a button does something there.
+    Touches(Touch),
+    /// It is pressed, moved and released.
+    Drags,
+    /// Keys type a text.
+    Types,
+    /// A key is struck.
+    Strikes,
+    /// A panel is given the keyboard.
+    Focuses,
+    /// A panel is given its rectangle.
+    Places,
+    /// A line of a session.
+    Tells,
+}
 
 const KEYS: [&str; 13] = [
     "time",
@@ -25,14 +51,19 @@ const KEYS: [&str; 13] = [
     "line",
 ];
 
-/// The keys of what the pointer does.
-const TOUCHES: [(&str, Touch); 6] = [
-    ("click", Touch::Click),
-    ("double-click", Touch::DoubleClick),
-    ("press", Touch::Press),
-    ("release", Touch::Release),
-    ("move", Touch::Move),
-    ("drag", Touch::Press),
+/// The keys by which something is done.
+const WAYS: [(&str, Way); 11] = [
+    ("click", Way::Touches(Touch::Click)),
+    ("double-click", Way::Touches(Touch::DoubleClick)),
+    ("press", Way::Touches(Touch::Press)),
+    ("release", Way::Touches(Touch::Release)),
+    ("move", Way::Touches(Touch::Move)),
+    ("drag", Way::Drags),
+    ("type", Way::Types),
+    ("key", Way::Strikes),
+    ("focus", Way::Focuses),
+    ("rect", Way::Places),
+    ("line", Way::Tells),
 ];
 
 const POINTER_KEYS: [&str; 6] = ["panel", "window", "x", "y", "button", "focus"];
@@ -47,9 +78,9 @@ const RECT_KEYS: [&str; 3] = ["panel", "at", "size"];
 const MAX_PLACE: u64 = 65_535;
 
 /// How many moves a drag has where it doesn't say, and at most.
-const MOVES: u64 = 8;
+const MOVES: u32 = 8;
 
-const MOST_MOVES: u64 = 1_000;
+const MOST_MOVES: u32 = 1_000;
 
 /// The window of a gesture, and the place in it.
 fn target(
@@ -59,37 +90,34 @@ fn target(
     x: &str,
     y: &str,
     panels: &[AppBlock],
-) -> Result<Target, Failure> {
+) -> Result<Target, Failure>
+    ensures { Says aim result (aim_in panels.now (table_view part.now.table.now) window.now x.now y.now) }
+{
     let slot = slot_named(alloc, part, "panel", panels)?;
-    let Some(path) = part.text(alloc, window)? else {
-        return Err(part.refused(alloc, window, "a window, as \".switch\""));
-    };
+    let path = text_in(alloc, part, window, "a window, as \".switch\"")?;
+    let across = number_if(alloc, part, x, MAX_PLACE)?;
+    let down = number_if(alloc, part, y, MAX_PLACE)?;
     Ok(Target {
         slot,
         window: String::from_str(alloc, path)?,
-        x: part.number(alloc, x, MAX_PLACE)?,
-        y: part.number(alloc, y, MAX_PLACE)?,
+        x: across,
+        y: down,
     })
 }
 
-/// A number from 1 on.
-fn counted(
-    alloc: Global,
-    part: &Part<'_>,
-    key: &str,
-    first: u64,
-    most: u64,
-) -> Result<u32, Failure> {
-    match part.number(alloc, key, most)?.unwrap_or(first) {
-        0 => {
-            let wanted = format!(in alloc; "a whole number from 1 to {most}")?;
-            Err(part.refused(alloc, key, wanted.as_str()))
-        }
-        number => Ok(u32::try_from(number).unwrap_or(1)),
+/// Whether a button is pressed.
+fn presses(touch: Touch) -> bool
+    ensures { result ≡ presses touch }
+{
+    match touch {
+        Touch::Click | Touch::DoubleClick | Touch::Press => true,
+        Touch::Release | Touch::Move => false,
     }
 }
 
-fn button(alloc: Global, part: &Part<'_>) -> Result<u32, Failure> {
+fn button(alloc: Global, part: &Part<'_>) -> Result<u32, Failure>
+    ensures { Says (λ button. button) result (counted 1 5 (value_of part.now (codes "button"))) }
+{
     counted(alloc, part, "button", 1, 5)
 }
 
@@ -99,24 +127,33 @@ fn pointing(
     part: &Part<'_>,
     touch: Touch,
     panels: &[AppBlock],
-) -> Result<Gesture, Failure> {
-    let presses = matches!(touch, Touch::Click | Touch::DoubleClick | Touch::Press);
+) -> Result<Gesture, Failure>
+    ensures { Says deed result (pointing_in panels.now touch (table_view part.now.table.now)) }
+{
+    let target = target(alloc, part, "window", "x", "y", panels)?;
+    let button = button(alloc, part)?;
+    let keys = flag_if(alloc, part, "focus")?;
     Ok(Gesture::Pointer(Pointing {
-        target: target(alloc, part, "window", "x", "y", panels)?,
+        target,
         moves: 1,
         touch,
-        button: button(alloc, part)?,
-        takes_keys: part.boolean(alloc, "focus")?.unwrap_or(presses),
+        button,
+        takes_keys: keys.unwrap_or(presses(touch)),
     }))
 }
 
 /// The moves of a drag, and the release that ends it.
-fn dropping(alloc: Global, part: &Part<'_>, panels: &[AppBlock]) -> Result<Gesture, Failure> {
+fn dropping(alloc: Global, part: &Part<'_>, panels: &[AppBlock]) -> Result<Gesture, Failure>
+    ensures { Says deed result (dropping_in panels.now (table_view part.now.table.now)) }
+{
+    let target = target(alloc, part, "to", "to-x", "to-y", panels)?;
+    let moves = counted(alloc, part, "moves", MOVES, MOST_MOVES)?;
+    let button = button(alloc, part)?;
     Ok(Gesture::Pointer(Pointing {
-        target: target(alloc, part, "to", "to-x", "to-y", panels)?,
-        moves: counted(alloc, part, "moves", MOVES, MOST_MOVES)?,
+        target,
+        moves,
         touch: Touch::Release,
-        button: button(alloc, part)?,
+        button,
         takes_keys: false,
     }))
 }
@@ -127,137 +164,247 @@ fn inner<'a>(
     part: &Part<'a>,
     key: &'static str,
     known: &[&str],
-) -> Result<Option<Part<'a>>, Failure> {
-    match part.table.get(key) {
+) -> Result<Option<Part<'a>>, Failure>
+    ensures { Says (option_map (λ inner. table_view inner.table.now)) result (table_if (words_of known.now) (value_of part.now key.now)) }
+{
+    let Some(value) = part.value(key) else {
+        return Ok(None);
+    };
+    let Value::Table(table) = value else {
+        let wanted = "a table, as { panel = \"lamp\", window = \".switch\" }";
+        return Err(part.refused(alloc, key, wanted));
+    };
+    let inner = part.inner(key, table);
+    inner.check_keys(alloc, known)?;
+    Ok(Some(inner))
+}
+
+/// One gesture.
+fn one(alloc: Global, gesture: Gesture) -> Result<Vec<Gesture>, AllocError>
+    ensures { IfOk result (λ found. map deed found.items ≡ deed gesture ∷ []) }
+{
+    let mut found = Vec::new(alloc);
+    found.push(gesture)?;
+    Ok(found)
+}
+
+/// A line of a session as a gesture.
+fn told(alloc: Global, line: HostLine) -> Result<Vec<Gesture>, AllocError>
+    ensures { IfOk result (λ found. map deed found.items ≡ LinesDeed (line ∷ []) ∷ []) }
+{
+    let mut lines = Vec::new(alloc);
+    lines.push(line)?;
+    one(alloc, Gesture::Lines(lines))
+}
+
+/// What the pointer does by a key, where the table has it.
+fn touch_at(
+    alloc: Global,
+    part: &Part<'_>,
+    key: &'static str,
+    touch: Touch,
+    panels: &[AppBlock],
+) -> Result<Vec<Gesture>, Failure>
+    ensures { Says (λ found. map deed found.items) result (touch_in panels.now touch (value_of part.now key.now)) }
+{
+    let Some(inner) = inner(alloc, part, key, POINTER_KEYS.as_slice())? else {
+        return Ok(Vec::new(alloc));
+    };
+    let gesture = pointing(alloc, &inner, touch, panels)?;
+    Ok(one(alloc, gesture)?)
+}
+
+/// A drag: a press, and moves that end in a release.
+fn drag_at(
+    alloc: Global,
+    part: &Part<'_>,
+    key: &'static str,
+    panels: &[AppBlock],
+) -> Result<Vec<Gesture>, Failure>
+    ensures { Says (λ found. map deed found.items) result (drag_in panels.now (value_of part.now key.now)) }
+{
+    let Some(inner) = inner(alloc, part, key, DRAG_KEYS.as_slice())? else {
+        return Ok(Vec::new(alloc));
+    };
+    let press = pointing(alloc, &inner, Touch::Press, panels)?;
+    let release = dropping(alloc, &inner, panels)?;
+    let mut found = Vec::new(alloc);
+    found.push(press)?;
+    found.push(release)?;
+    Ok(found)
+}
+
+/// The keys that type a text.
+fn typed_at(alloc: Global, part: &Part<'_>, key: &str) -> Result<Vec<Gesture>, Failure>
+    ensures { Says (λ found. map deed found.items) result (typed_in (value_of part.now key.now)) }
+{
+    let Some(text) = text_if(alloc, part, key)? else {
+        return Ok(Vec::new(alloc));
+    };
+    let lines = typed(alloc, part, text)?;
+    Ok(one(alloc, Gesture::Keys(lines))?)
+}
+
+/// A key that is struck.
+fn struck_at(alloc: Global, part: &Part<'_>, key: &str) -> Result<Vec<Gesture>, Failure>
+    ensures { Says (λ found. map deed found.items) result (struck_in (value_of part.now key.now)) }
+{
+    let Some(text) = text_if(alloc, part, key)? else {
+        return Ok(Vec::new(alloc));
+    };
+    let lines = struck(alloc, part, text)?;
+    Ok(one(alloc, Gesture::Keys(lines))?)
+}
+
+/// The line that gives the keyboard to the panel of this name, or to none.
+fn focus_of(
+    alloc: Global,
+    part: &Part<'_>,
+    key: &str,
+    name: &str,
+    panels: &[AppBlock],
+) -> Result<HostLine, Failure>
+    ensures { Says (λ line. line) result (focus_of panels.now name.now) }
+{
+    if name == "-" {
+        return Ok(HostLine::Focus(None));
+    }
+    let slot = slot_by(alloc, part, key, name, panels)?;
+    Ok(HostLine::Focus(Some(slot)))
+}
+
+fn focus_at(
+    alloc: Global,
+    part: &Part<'_>,
+    key: &str,
+    panels: &[AppBlock],
+) -> Result<Vec<Gesture>, Failure>
+    ensures { Says (λ found. map deed found.items) result (focus_in panels.now (value_of part.now key.now)) }
+{
+    let Some(name) = text_if(alloc, part, key)? else {
+        return Ok(Vec::new(alloc));
+    };
+    let line = focus_of(alloc, part, key, name, panels)?;
+    Ok(told(alloc, line)?)
+}
+
+/// The line that gives a panel's rectangle.
+fn placing(alloc: Global, part: &Part<'_>, panels: &[AppBlock]) -> Result<HostLine, Failure>
+    ensures { Says (λ line. line) result (placing_of panels.now (table_view part.now.table.now)) }
+{
+    let slot = slot_named(alloc, part, "panel", panels)?;
+    let rect = rect(alloc, part)?;
+    Ok(HostLine::Rect { slot, rect })
+}
+
+fn placing_at(
+    alloc: Global,
+    part: &Part<'_>,
+    key: &'static str,
+    panels: &[AppBlock],
+) -> Result<Vec<Gesture>, Failure>
+    ensures { Says (λ found. map deed found.items) result (placing_in panels.now (value_of part.now key.now)) }
+{
+    let Some(inner) = inner(alloc, part, key, RECT_KEYS.as_slice())? else {
+        return Ok(Vec::new(alloc));
+    };
+    let line = placing(alloc, &inner, panels)?;
+    Ok(told(alloc, line)?)
+}
+
+/// A line that names no panel which isn't there.
+fn of_panels(line: HostLine, count: usize) -> Option<HostLine>
+    ensures { result ≡ of_panels count line }
+{
+    match line {
+        HostLine::Focus(Some(slot)) if slot >= count => None,
+        HostLine::Rect { slot, .. } if slot >= count => None,
+        line => Some(line),
+    }
+}
+
+/// The line of a session that is written without its moment, where it is one.
+fn line_of(alloc: Global, panels: &[AppBlock], words: &str) -> Result<Option<HostLine>, AllocError>
+    ensures { IfOk result (λ line. line ≡ line_of panels.now words.now) }
+{
+    let line = format!(in alloc; "0 {words}")?;
+    match read_event(panels, line.as_str().as_bytes()) {
+        Some(event) => Ok(of_panels(event.line, panels.len())),
         None => Ok(None),
-        Some(Value::Table(table)) => {
-            let inner = part.inner(key, table);
-            inner.check_keys(alloc, known)?;
-            Ok(Some(inner))
-        }
-        Some(_) => {
-            let wanted = "a table, as { panel = \"lamp\", window = \".switch\" }";
+    }
+}
+
+fn line_at(
+    alloc: Global,
+    part: &Part<'_>,
+    key: &str,
+    panels: &[AppBlock],
+) -> Result<Vec<Gesture>, Failure>
+    ensures { Says (λ found. map deed found.items) result (line_in panels.now (value_of part.now key.now)) }
+{
+    let Some(words) = text_if(alloc, part, key)? else {
+        return Ok(Vec::new(alloc));
+    };
+    match line_of(alloc, panels, words)? {
+        Some(line) => Ok(told(alloc, line)?),
+        None => {
+            let wanted =
+                "a line of a session without its moment: move X Y, press BUTTON, release BUTTON, keydown KEY, keyup KEY, focus NAME, focus - or rect NAME X Y WIDTH HEIGHT";
             Err(part.refused(alloc, key, wanted))
         }
     }
 }
 
-/// Adds what the pointer does.
-fn push_touches(
+/// What a key says, by its way.
+fn deeds_at(
     alloc: Global,
     part: &Part<'_>,
+    key: &'static str,
+    way: Way,
     panels: &[AppBlock],
-    found: &mut Vec<Gesture>,
-) -> Result<(), Failure> {
-    for (key, touch) in TOUCHES {
-        let is_drag = key == "drag";
-        let known = if is_drag {
-            DRAG_KEYS.as_slice()
-        } else {
-            POINTER_KEYS.as_slice()
-        };
-        if let Some(inner) = inner(alloc, part, key, known)? {
-            found.push(pointing(alloc, &inner, touch, panels)?)?;
-            if is_drag {
-                found.push(dropping(alloc, &inner, panels)?)?;
-            }
-        }
+) -> Result<Vec<Gesture>, Failure>
+    ensures { Says (λ found. map deed found.items) result (deeds_by panels.now way (value_of part.now key.now)) }
+{
+    match way {
+        Way::Touches(touch) => touch_at(alloc, part, key, touch, panels),
+        Way::Drags => drag_at(alloc, part, key, panels),
+        Way::Types => typed_at(alloc, part, key),
+        Way::Strikes => struck_at(alloc, part, key),
+        Way::Focuses => focus_at(alloc, part, key, panels),
+        Way::Places => placing_at(alloc, part, key, panels),
+        Way::Tells => line_at(alloc, part, key, panels),
     }
-    Ok(())
 }
 
-/// The line that gives a panel's rectangle, where the entry does.
-fn placing(
+/// What keys say, one after another.
+fn all_deeds(
     alloc: Global,
     part: &Part<'_>,
+    ways: &[(&'static str, Way)],
     panels: &[AppBlock],
-) -> Result<Option<HostLine>, Failure> {
-    let Some(inner) = inner(alloc, part, "rect", RECT_KEYS.as_slice())? else {
-        return Ok(None);
-    };
-    let slot = slot_named(alloc, &inner, "panel", panels)?;
-    let rect: Rect = rect(alloc, &inner)?;
-    Ok(Some(HostLine::Rect { slot, rect }))
-}
-
-/// The line that gives the keyboard to a panel, or to none, where the entry does.
-fn focusing(
-    alloc: Global,
-    part: &Part<'_>,
-    panels: &[AppBlock],
-) -> Result<Option<HostLine>, Failure> {
-    match part.text(alloc, "focus")? {
-        None => Ok(None),
-        Some("-") => Ok(Some(HostLine::Focus(None))),
-        Some(_) => Ok(Some(HostLine::Focus(Some(slot_named(alloc, part, "focus", panels)?)))),
+) -> Result<Vec<Gesture>, Failure>
+    ensures { Says (λ found. map deed found.items) result (all_said (map (λ row. deeds_at panels.now (table_view part.now.table.now) row.0.now row.1) ways.now)) }
+{
+    let mut found = Vec::new(alloc);
+    for way in ways {
+        let mut more = deeds_at(alloc, part, way.0, way.1, panels)?;
+        found.append(&mut more)?;
     }
+    Ok(found)
 }
 
-/// The line of a session that is written without its moment, where it is one.
-fn line_of(
-    alloc: Global,
-    panels: &[AppBlock],
-    words: &str,
-) -> Result<Option<HostLine>, AllocError> {
-    let line = format!(in alloc; "0 {words}")?;
-    let Some(event) = read_event(panels, line.as_str().as_bytes()) else {
-        return Ok(None);
-    };
-    match event.line {
-        HostLine::Focus(Some(slot)) if slot >= panels.len() => Ok(None),
-        HostLine::Rect { slot, .. } if slot >= panels.len() => Ok(None),
-        line => Ok(Some(line)),
-    }
-}
-
-/// The line of a session that the entry says, where it says one.
-fn line(alloc: Global, part: &Part<'_>, bench: &Bench) -> Result<Option<HostLine>, Failure> {
-    let Some(words) = part.text(alloc, "line")? else {
-        return Ok(None);
-    };
-    match line_of(alloc, bench.panels.as_slice(), words)? {
-        Some(line) => Ok(Some(line)),
-        None => {
-            let wanted =
-                "a line of a session without its moment: move X Y, press BUTTON, release BUTTON, keydown KEY, keyup KEY, focus NAME, focus - or rect NAME X Y WIDTH HEIGHT";
-            Err(part.refused(alloc, "line", wanted))
-        }
-    }
-}
-
-/// Adds a line of a session as a gesture.
-fn push_line(
-    alloc: Global,
-    line: Option<HostLine>,
-    found: &mut Vec<Gesture>,
-) -> Result<(), Failure> {
-    if let Some(line) = line {
-        let mut lines = Vec::new(alloc);
-        lines.push(line)?;
-        found.push(Gesture::Lines(lines))?;
-    }
-    Ok(())
-}
-
-/// The gesture of an entry: a drag is two, a press, and moves that end in a release.
+/// The gestures of an entry: a drag is two, a press, and moves that end in a release.
 pub(crate) fn gestures(
     alloc: Global,
     part: &Part<'_>,
-    bench: &Bench,
-) -> Result<Vec<Gesture>, Failure> {
-    part.check_keys(alloc, KEYS.as_slice())?;
-    let panels = bench.panels.as_slice();
-    let mut found = Vec::new(alloc);
-    push_touches(alloc, part, panels, &mut found)?;
-    if let Some(text) = part.text(alloc, "type")? {
-        found.push(typed(alloc, part, text)?)?;
-    }
-    if let Some(text) = part.text(alloc, "key")? {
-        found.push(struck(alloc, part, text)?)?;
-    }
-    push_line(alloc, focusing(alloc, part, panels)?, &mut found)?;
-    push_line(alloc, placing(alloc, part, panels)?, &mut found)?;
-    push_line(alloc, line(alloc, part, bench)?, &mut found)?;
+    panels: &[AppBlock],
+) -> Result<Vec<Gesture>, Failure>
+    ensures { Says (λ found. map deed found.items) result (deeds_in panels.now (table_view part.now.table.now)) }
+{
+    let known = KEYS.as_slice();
+    part.check_keys(alloc, known)?;
+    let ways = WAYS.as_slice();
+    let found = all_deeds(alloc, part, ways, panels)?;
     let count = part.table.len();
     if count != 2 {
         let words =

@@ -10,6 +10,7 @@ mod seeing;
 mod sides;
 mod spots;
 mod typing;
+mod values;
 
 pub use files::load;
 pub use messages::{slot_at, slot_of_finding, told};

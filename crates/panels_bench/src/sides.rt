@@ -4,16 +4,18 @@ ghost use Rattle.std.specs.Prelude.{◌≡◌, ◌≤◌, codes, Some, option_ma
 ghost use Rattle.std.specs.String.{string_bytes};
 ghost use Rattle.panels_bench.specs.Messages.{label_of};
 ghost use Rattle.panels_bench.specs.Panels.{AreAliasesOf, ArePanels, IsAlias, IsBudget, IsPair, IsPanel, IsRect, IsScript, IsSide, IsSteps, is_said};
+ghost use Rattle.panels_bench.specs.Values.{Says, pair_in, pair_of, rect_in, slot_in, slot_named};
 ghost use Rattle.panels_text.specs.Tables.{IsRefused, value_of, values_of};
 ghost use Rattle.tk_session.specs.Reading.{service_kind};
 ghost use Rattle.toml.specs.Data.{string};
-ghost use Rattle.toml.specs.View.{table_view, view};
+ghost use Rattle.toml.specs.View.{items_view, table_view, view};
 
+use crate::values::{text_in, text_of};
 use panels_text::{Failure, Part, file_beside, in_range, plain_script, serving};
 use std::alloc::{AllocError, Global};
 use std::fs;
 use std::rt::Files;
-use tcl_text::{Text, TextFault};
+use tcl_text::Text;
 use tk_base::{Budget, Rect};
 use tk_session::{AliasLine, AppBlock, Listing, Service, ServiceKind};
 use toml::Value;
@@ -68,26 +70,75 @@ pub fn label_of(alloc: Global, file: &str, side: &Side, panel: &str) -> Result<S
     }
 }
 
+/// The slot of the panel of this name.
+pub(crate) fn slot_of(panels: &[AppBlock], name: &str) -> Option<usize>
+    ensures { result ≡ slot_named panels.now name.now }
+{
+    for (slot, panel) in panels.iter().enumerate() {
+        if panel.name.as_str() == name {
+            return Some(slot);
+        }
+    }
+    None
+}
+
+/// That no panel has this name, and which would serve.
+fn no_panel(
+    alloc: Global,
+    part: &Part<'_>,
+    key: &str,
+    name: &str,
+    panels: &[AppBlock],
+) -> Result<Failure, AllocError> {
+    let mut names = Vec::new(alloc);
+    for panel in panels {
+        names.push(panel.name.as_str())?;
+    }
+    let serves = serving(alloc, name, names.as_slice())?;
+    let words = format!(in alloc; "there is no panel {name}: {serves}")?;
+    Ok(part.fault(alloc, key, words.as_str()))
+}
+
+/// The slot of the panel of a name, which a key has.
+pub(crate) fn slot_by(
+    alloc: Global,
+    part: &Part<'_>,
+    key: &str,
+    name: &str,
+    panels: &[AppBlock],
+) -> Result<usize, Failure>
+    ensures { Says (λ slot. slot) result (slot_named panels.now name.now) }
+{
+    match slot_of(panels, name) {
+        Some(slot) => Ok(slot),
+        None => Err(no_panel(alloc, part, key, name, panels)?),
+    }
+}
+
 /// The slot of the panel that a key names.
 pub(crate) fn slot_named(
     alloc: Global,
     part: &Part<'_>,
     key: &str,
     panels: &[AppBlock],
-) -> Result<usize, Failure> {
-    let Some(name) = part.text(alloc, key)? else {
-        return Err(part.refused(alloc, key, "the name of a panel"));
+) -> Result<usize, Failure>
+    ensures { Says (λ slot. slot) result (slot_in panels.now (value_of part.now key.now)) }
+{
+    let name = text_in(alloc, part, key, "the name of a panel")?;
+    slot_by(alloc, part, key, name, panels)
+}
+
+/// Two numbers, none larger than `most`.
+fn pair_of(values: &[Value], most: u64) -> Option<(u64, u64)>
+    ensures pair { result ≡ pair_of most (items_view values.now) }
+    ensures most { IfSome result (λ pair. (pair.0 ≤ most) × (pair.1 ≤ most)) }
+{
+    let [one, other] = values else {
+        return None;
     };
-    let mut names = Vec::new(alloc);
-    for (slot, panel) in panels.iter().enumerate() {
-        if panel.name.as_str() == name {
-            return Ok(slot);
-        }
-        names.push(panel.name.as_str())?;
-    }
-    let serves = serving(alloc, name, names.as_slice())?;
-    let words = format!(in alloc; "there is no panel {name}: {serves}")?;
-    Err(part.fault(alloc, key, words.as_str()))
+    let one = in_range(one, most)?;
+    let other = in_range(other, most)?;
+    Some((one, other))
 }
 
 /// Two numbers of an array, none larger than `most`.
@@ -98,20 +149,20 @@ fn pair(
     most: u64,
     wanted: &str,
 ) -> Result<(u64, u64), Failure>
+    ensures said { Says (λ pair. pair) result (pair_in most (value_of part.now key.now)) }
     ensures pair { IfOk result (λ pair. IsPair most (value_of part.now key.now) pair.0 pair.1 × (pair.0 ≤ most) × (pair.1 ≤ most)) }
     ensures refused { IfErr result (λ failure. IsRefused part.now key.now wanted.now failure) }
 {
-    if let [one, other] = part.array(alloc, key, wanted)? {
-        if let (Some(one), Some(other)) = (in_range(one, most), in_range(other, most)) {
-            return Ok((one, other));
-        }
+    match pair_of(part.array(alloc, key, wanted)?, most) {
+        Some(pair) => Ok(pair),
+        None => Err(part.refused(alloc, key, wanted)),
     }
-    Err(part.refused(alloc, key, wanted))
 }
 
 /// The rectangle of `at` and `size`.
 pub(crate) fn rect(alloc: Global, part: &Part<'_>) -> Result<Rect, Failure>
-    ensures { IfOk result (λ rect. IsRect (table_view part.now.table.now) rect) }
+    ensures rect { IfOk result (λ rect. IsRect (table_view part.now.table.now) rect) }
+    ensures said { Says (λ rect. rect) result (rect_in (table_view part.now.table.now)) }
 {
     let wanted = "two numbers of pixels up to 32767, as [100, 60]";
     let (x, y) = pair(alloc, part, "at", MAX_PIXELS, wanted)?;
@@ -164,30 +215,11 @@ fn budget(alloc: Global, part: &Part<'_>) -> Result<Budget, Failure>
     Err(part.refused(alloc, "steps", wanted))
 }
 
-/// A text of a session; `key` says where it is too long.
-pub(crate) fn text_of(
-    alloc: Global,
-    part: &Part<'_>,
-    key: &str,
-    text: &str,
-) -> Result<Text, Failure>
-    ensures { IfOk result (λ copy. copy ≡ text.now) }
-{
-    match Text::new(alloc, text) {
-        Ok(text) => Ok(text),
-        Err(TextFault::TooLong) => Err(part.fault(alloc, key, "this has more than 65536 bytes")),
-        Err(TextFault::NoMemory) => Err(Failure::NoMemory),
-    }
-}
-
 /// A text that has to be there.
 fn needed<'a>(alloc: Global, part: &Part<'a>, key: &str) -> Result<&'a str, Failure>
     ensures { IfOk result (λ text. value_of part.now key.now ≡ Some (string text.now)) }
 {
-    match part.text(alloc, key)? {
-        Some(text) => Ok(text),
-        None => Err(part.refused(alloc, key, "a text between quotes")),
-    }
+    text_in(alloc, part, key, "a text between quotes")
 }
 
 fn kind_of(word: &str) -> Option<ServiceKind>

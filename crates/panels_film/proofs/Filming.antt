@@ -1,18 +1,28 @@
 -- The frames of a film, moment by moment.
-use Rattle.std.proofs.Common.{◌≡◌, ℕ, suc, ◌-◌, Bool, true, false, List, [], ◌∷◌, ◌++◌, length, map, Some, None, refl, ap, sym, ◌∙◌, subst, append_assoc, slice_get, arith}
+use Rattle.std.proofs.Common.{◌≡◌, ℕ, zero, suc, ◌+◌, ◌-◌, ◌<◌, Bool, true, false, cond, List, [], ◌∷◌, ◌++◌, length, map, Option, Some, None, refl, ap, sym, ◌∙◌, subst, append_assoc, slice_get, add-one, ⊎_elim, arith}
+use Rattle.std.proofs.lemmas.Bool.{cases_Bool}
 use Rattle.std.proofs.lemmas.List.{append-nil, length_push}
 use Rattle.tk_app.specs.Seen.{Meaning}
 use Rattle.tk_host.specs.Held.{Call, HostState, held_after}
 use Rattle.tk_session.specs.Session.{Plan}
 use Rattle.panels_film.specs.declared.film.Frame.{Frame}
-use Rattle.panels_film.specs.Films.{AreFrames, Shown, are_all, come, is_repeated, last_of, moment_behind, shown, shown_at, shown_from, with_frame, without_repeats}
+use Rattle.panels_film.specs.Films.{AreFrames, Shown, are_all, at_next, come, is_repeated, last_of, moment_behind, or_end, shown, shown_at, shown_from, with_frame, without_repeats}
+use Rattle.panels_film.specs.Looks.{Look, looks_from}
 
 -- a frame shows just this
-pub shown_is : (frame : Frame) (now : Shown) → frame.moment ≡ now.moment → frame.count ≡ now.count → (shown frame).sections ≡ now.sections → shown frame ≡ now
-shown_is frame now of_moment of_count of_sections =
-    ap (λ (m : ℕ). let it : Shown = record { moment = m; count = frame.count; sections = (shown frame).sections } in it) of_moment
-    ∙ ap (λ (n : ℕ). let it : Shown = record { moment = now.moment; count = n; sections = (shown frame).sections } in it) of_count
-    ∙ ap (λ (s : List (List ℕ)). let it : Shown = record { moment = now.moment; count = now.count; sections = s } in it) of_sections
+pub shown_is : (frame : Frame) (now : Shown) → frame.moment ≡ now.moment → frame.count ≡ now.count → (shown frame).sections ≡ now.sections → (shown frame).looks ≡ now.looks
+    → shown frame ≡ now
+shown_is frame now of_moment of_count of_sections of_looks =
+    ap (λ (m : ℕ). let it : Shown = record { moment = m; count = frame.count; sections = (shown frame).sections; looks = (shown frame).looks } in it) of_moment
+    ∙ ap (λ (n : ℕ). let it : Shown = record { moment = now.moment; count = n; sections = (shown frame).sections; looks = (shown frame).looks } in it) of_count
+    ∙ ap (λ (s : List (List ℕ)). let it : Shown = record { moment = now.moment; count = now.count; sections = s; looks = (shown frame).looks } in it) of_sections
+    ∙ ap (λ (l : List (List Look)). let it : Shown = record { moment = now.moment; count = now.count; sections = now.sections; looks = l } in it) of_looks
+
+-- how windows look that show these sections
+pub looks_are : {M : Type 0} (looks : List (List Look)) (held after : HostState M) (sections now : List (List ℕ)) → looks ≡ looks_from held 0 sections → held ≡ after → sections ≡ now
+    → looks ≡ looks_from after 0 now
+looks_are {M} looks held after sections now are same show =
+    are ∙ ap (λ (h : HostState M). looks_from h 0 sections) same ∙ ap (λ (s : List (List ℕ)). looks_from after 0 s) show
 
 get-last : (frames : List Frame) (frame : Frame) → slice_get (frames ++ frame ∷ []) (length frames) ≡ Some frame
 get-last [] frame = refl

@@ -1,4 +1,6 @@
 mod Filming
 mod Histories
+mod Noting
+mod Parsing
 mod Pictures
 mod Tracing

@@ -4,7 +4,7 @@ use Rattle.std.specs.Cmp.Lexicographic.{pointwise}
 use Rattle.std.specs.Str.{bytes_eq}
 use Rattle.std.specs.declared.alloc.Global.{Global}
 use Rattle.std.specs.String.{string_bytes}
-use Rattle.tk_host.specs.Held.{AdvanceTo, Call, Start}
+use Rattle.tk_host.specs.Held.{AdvanceTo, Call, LineAt, Start, held_after}
 use Rattle.tk_host.specs.Sections.{sections_after}
 use Rattle.tk_app.specs.Seen.{Meaning}
 use Rattle.tk_session.specs.Session.{Plan}
@@ -14,6 +14,7 @@ use Rattle.panels.specs.Dues.{next_due}
 use Rattle.panels_film.specs.declared.film.Film.{Film}
 use Rattle.panels_film.specs.declared.film.Frame.{Frame}
 use Rattle.panels_film.specs.declared.looks.WindowLook.{WindowLook}
+use Rattle.panels_film.specs.Looks.{Look, looks_from, told_all}
 use Rattle.panels_film.specs.Moments.{count_until}
 
 -- the earlier of two moments, where they are there
@@ -31,20 +32,37 @@ module _ {M : Type 0} where
   abbrev pub begun : Plan → List (List (List ℕ × M)) → List (Call M)
   begun plan lists = adding plan.apps lists ++ Start ∷ []
 
-  -- .. the lines up to a moment are handed on, and the moment is reached
+  -- a moment is reached, and a line handed on when its moment is reached
+  abbrev pub reached : List (Call M) → ℕ → List (Call M)
+  reached calls moment = calls ++ AdvanceTo moment ∷ []
+
+  abbrev pub handed : List (Call M) → EventLine → List (Call M)
+  handed calls event = reached calls event.moment ++ LineAt event.moment event.line ∷ []
+
+  -- the lines behind so many that come up to a moment are handed on, and the moment is reached
+  abbrev pub come : Plan → List (Call M) → ℕ → ℕ → List (Call M)
+  come plan calls before moment = (calls ++ lining (drop before (take (count_until moment plan.events) plan.events))) ++ AdvanceTo moment ∷ []
+
+  -- they have run their scripts, and come to a moment
   abbrev pub calls_until : Plan → ℕ → List (List (List ℕ × M)) → List (Call M)
-  calls_until plan moment lists = (begun plan lists ++ lining (take (count_until moment plan.events) plan.events)) ++ AdvanceTo moment ∷ []
+  calls_until plan moment lists = come plan (begun plan lists) 0 moment
 
 -- ---- the moments of a film
 
--- what the panels show at a moment, but for how their windows look
+-- what the panels show at a moment, and how their windows look
 pub record Shown : Type 0 where
   pub moment : ℕ
   pub count : ℕ
   pub sections : List (List ℕ)
+  pub looks : List (List Look)
 
 abbrev pub shown : Frame → Shown
-shown frame = record { moment = frame.moment; count = frame.count; sections = map (λ (section : Vec ℕ Global). section.items) frame.sections.items }
+shown frame = record {
+  moment = frame.moment;
+  count = frame.count;
+  sections = map (λ (section : Vec ℕ Global). section.items) frame.sections.items;
+  looks = told_all frame.looks.items;
+}
 
 -- the earliest moment behind one at which a timer of these sections is due, or this one
 abbrev pub earliest_due : ℕ → Option ℕ → List (List ℕ) → Option ℕ
@@ -79,15 +97,18 @@ abbrev pub or_end : (ℕ → Bool) → Option ℕ → Bool
 or_end some None = true
 or_end some (Some moment) = some moment
 
-module _ {M : Type 0} where
-  -- the lines behind so many that come up to a moment are handed on, and the moment is reached
-  abbrev pub come : Plan → List (Call M) → ℕ → ℕ → List (Call M)
-  come plan calls before moment = (calls ++ lining (drop before (take (count_until moment plan.events) plan.events))) ++ AdvanceTo moment ∷ []
-
 module _ {M : Type 0} (answer : M → Meaning) (plan : Plan) where
-  -- what the panels show behind these calls
+  -- what the panels show behind these calls, and how their windows look then
+  abbrev pub sections_at : List (Call M) → List (List ℕ)
+  sections_at calls = take (length plan.apps) (sections_after answer calls)
+
   abbrev pub shown_at : List (Call M) → ℕ → Shown
-  shown_at calls moment = record { moment = moment; count = count_until moment plan.events; sections = take (length plan.apps) (sections_after answer calls) }
+  shown_at calls moment = record {
+    moment = moment;
+    count = count_until moment plan.events;
+    sections = sections_at calls;
+    looks = looks_from (held_after answer calls) 0 (sections_at calls);
+  }
 
   -- from a moment on, behind calls by which so many lines had come: what is shown at it and at each next one, of the first so many moments
   unfoldable pub shown_from : ℕ → List (Call M) → ℕ → ℕ → List Shown

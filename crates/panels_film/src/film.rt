@@ -1,19 +1,19 @@
 //! What a bench shows from moment to moment.
 
-ghost use Rattle.std.specs.Prelude.{◌≡◌, ◌+◌, ◌≤◌, ◌∷◌, ◌++◌, [], All, List, length, map, take, IfOk, OnOk};
+ghost use Rattle.std.specs.Prelude.{◌≡◌, ◌+◌, ◌≤◌, All, List, length, map, take, IfOk, OnOk};
 ghost use Rattle.tk_session.specs.declared.session.EventLine.{EventLine as Event};
 ghost use Rattle.tk_alias.specs.Services.{answer_of};
 ghost use Rattle.tk_alias.specs.declared.service.Service.{Service as ServiceOf};
-ghost use Rattle.tk_host.specs.Held.{AdvanceTo, Call, held_after};
+ghost use Rattle.tk_host.specs.Held.{Call, held_after};
 ghost use Rattle.tk_host.specs.Sections.{sections_after};
-ghost use Rattle.tkhost.specs.Calls.{lining};
 ghost use Rattle.tkhost.specs.Play.{MakesServices, services_in};
 ghost use Rattle.std.specs.Option.{option_copied};
 ghost use Rattle.panels_film.specs.Films.{IsCounted, IsFilm, begun as begun_calls, calls_until, come, earlier, is_alike, is_repeated, later_than, line_behind, moment_behind, shown, shown_at, timer_behind, up_to, with_frame};
+ghost use Rattle.panels_film.specs.Looks.{looks_from, told_all};
 ghost use Rattle.panels_film.specs.Moments.{count_until};
 
 use crate::looks::{WindowLook, looks_of};
-use crate::moments::{between, count_until, until};
+use crate::moments::{between, count_until};
 use crate::playing::{begun, hand, reach, sections_now};
 use panels::{Live, live_with, next_due};
 use std::alloc::{AllocError, Global};
@@ -112,7 +112,9 @@ fn looks_now<M: AliasService>(
     alloc: Global,
     live: &Live<M>,
     sections: &[Vec<u8>],
-) -> Result<Vec<Vec<WindowLook>>, AllocError> {
+) -> Result<Vec<Vec<WindowLook>>, AllocError>
+    ensures { IfOk result (λ looks. told_all looks.items ≡ looks_from live.now.held 0 (map (λ section. section.items) sections.now)) }
+{
     let mut looks = Vec::new(alloc);
     for (slot, section) in sections.iter().enumerate() {
         looks.push(looks_of(alloc, live, slot, section.as_slice())?)?;
@@ -132,6 +134,7 @@ fn frame_now<M: AliasService>(
     ensures count { IfOk result (λ frame. frame.count ≡ count) }
     ensures history { (calls : List (Call M)) → live.now.held ≡ held_after M.answer calls →
         IfOk result (λ frame. map (λ section. section.items) frame.sections.items ≡ take panels (sections_after M.answer calls)) }
+    ensures looks { IfOk result (λ frame. told_all frame.looks.items ≡ looks_from live.now.held 0 (map (λ section. section.items) frame.sections.items)) }
 {
     let sections = sections_now(alloc, live, panels)?;
     let looks = looks_now(alloc, live, sections.as_slice())?;
@@ -236,14 +239,11 @@ fn frame_of<M: AliasService>(
 ) -> Result<Frame, AllocError>
     ensures moment { IfOk result (λ frame. frame.moment ≡ moment) }
     ensures count { IfOk result (λ frame. frame.count ≡ count_until moment session.now.events) }
-    ensures history { (calls : List (Call M)) → live.held ≡ held_after M.answer calls →
-        IfOk result (λ frame. map (λ section. section.items) frame.sections.items ≡ take (length session.now.apps) (sections_after M.answer ((calls ++ lining (take (count_until moment session.now.events) session.now.events)) ++ AdvanceTo moment ∷ []))) }
+    ensures shown { (calls : List (Call M)) → live.held ≡ held_after M.answer calls →
+        IfOk result (λ frame. shown frame ≡ shown_at M.answer session.now (come session.now calls 0 moment) moment) }
 {
-    let events = session.events();
-    hand(&mut live, until(events, moment))?;
-    reach(&mut live, moment)?;
-    let count = count_until(events, moment);
-    frame_now(alloc, &live, session.apps().len(), moment, count)
+    let frame = frame_next(alloc, &mut live, session, 0, moment)?;
+    Ok(frame)
 }
 
 /// The same of the panels of a session, with the closures that are made for its aliases.
@@ -258,7 +258,7 @@ fn frame_with<F: AliasCode, K: Fn(ServiceKind, Text) -> F>(
     requires services { MakesServices (K.post make.now) F.may_call F.may_reply }
     ensures moment { IfOk result (λ frame. frame.moment ≡ moment) }
     ensures count { IfOk result (λ frame. frame.count ≡ count_until moment session.now.events) }
-    ensures sections { IfOk result (λ frame. map (λ section. section.items) frame.sections.items ≡ take (length session.now.apps) (sections_after (λ (service : ServiceOf). answer_of service.kind service.config) (calls_until session.now moment (map services_in session.now.apps)))) }
+    ensures shown { IfOk result (λ frame. shown frame ≡ shown_at (λ (service : ServiceOf). answer_of service.kind service.config) session.now (calls_until session.now moment (map services_in session.now.apps)) moment) }
 {
     let live = begun(live_with(alloc, session, slice.max(1), make))?;
     frame_of(alloc, live, session, moment)
@@ -274,7 +274,7 @@ pub fn frame_at(
 ) -> Result<Frame, AllocError>
     ensures moment { IfOk result (λ frame. frame.moment ≡ moment) }
     ensures count { IfOk result (λ frame. frame.count ≡ count_until moment session.now.events) }
-    ensures sections { IfOk result (λ frame. map (λ section. section.items) frame.sections.items ≡ take (length session.now.apps) (sections_after (λ (service : ServiceOf). answer_of service.kind service.config) (calls_until session.now moment (map services_in session.now.apps)))) }
+    ensures shown { IfOk result (λ frame. shown frame ≡ shown_at (λ (service : ServiceOf). answer_of service.kind service.config) session.now (calls_until session.now moment (map services_in session.now.apps)) moment) }
 {
     frame_with(
         alloc,

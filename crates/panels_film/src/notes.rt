@@ -1,12 +1,13 @@
 //! What came of the lines of gestures.
 
-ghost use Rattle.std.specs.Prelude.{◌≡◌, ◌∷◌, ◌++◌, [], List, map, IfOk};
+ghost use Rattle.std.specs.Prelude.{◌≡◌, List, length, map, IfOk};
 ghost use Rattle.tk_alias.specs.Services.{answer_of};
 ghost use Rattle.tk_alias.specs.declared.service.Service.{Service as ServiceOf};
-ghost use Rattle.tk_host.specs.Held.{AdvanceTo, Call, LineAt, held_after};
+ghost use Rattle.tk_host.specs.Held.{Call, held_after};
 ghost use Rattle.tkhost.specs.Play.{MakesServices, services_in};
-ghost use Rattle.panels_film.specs.Films.{begun};
-ghost use Rattle.panels_film.specs.Notes.{note_of, notes_from, told};
+ghost use Rattle.panels_film.specs.Films.{begun, handed, reached};
+ghost use Rattle.panels_film.specs.Getters.{getter_of};
+ghost use Rattle.panels_film.specs.Notes.{are_others, changes, getter_told, notes_from, told};
 ghost use Rattle.panels_film.specs.Screens.{at_first, known};
 
 use crate::playing::{begun, hand_line, reach, sections_now};
@@ -30,8 +31,10 @@ pub struct Note {
 }
 
 /// Whether sections are others than before.
-fn are_others(before: &[Vec<u8>], after: &[Vec<u8>]) -> bool {
-    before != after
+fn are_others(before: &[Vec<u8>], after: &[Vec<u8>]) -> bool
+    ensures { result ≡ are_others (map (λ section. section.items) before.now) (map (λ section. section.items) after.now) }
+{
+    !(before == after)
 }
 
 /// Hands on a line to so many panels, and tells what came of it.
@@ -42,10 +45,11 @@ fn noted<M: AliasService>(
     screen: &Screen,
     event: EventLine,
 ) -> Result<Note, AllocError>
-    ensures note { (calls : List (Call M)) → live.old.held ≡ held_after M.answer calls →
-        IfOk result (λ note. told note ≡ note_of M.answer calls (known screen.now) event) }
+    ensures getter { (calls : List (Call M)) → live.old.held ≡ held_after M.answer calls →
+        IfOk result (λ note. getter_told note ≡ getter_of M.answer (reached calls event.moment) (known screen.now) event.line) }
+    ensures changed { (calls : List (Call M)) → live.old.held ≡ held_after M.answer calls → IfOk result (λ note. note.changed ≡ changes M.answer panels calls event) }
     ensures history { (calls : List (Call M)) → live.old.held ≡ held_after M.answer calls →
-        IfOk result (λ note. live.new.held ≡ held_after M.answer ((calls ++ AdvanceTo event.moment ∷ []) ++ LineAt event.moment event.line ∷ [])) }
+        IfOk result (λ note. live.new.held ≡ held_after M.answer (handed calls event)) }
 {
     reach(live, event.moment)?;
     let getter = getter_of(alloc, live, screen, event.line)?;
@@ -66,12 +70,12 @@ fn follow<M: AliasService>(
     session: &Session,
 ) -> Result<Vec<Note>, AllocError>
     ensures { (calls : List (Call M)) → live.held ≡ held_after M.answer calls →
-        IfOk result (λ notes. map told notes.items ≡ notes_from M.answer calls (at_first session.now.apps) session.now.events) }
+        IfOk result (λ notes. map told notes.items ≡ notes_from M.answer (length session.now.apps) calls (at_first session.now.apps) session.now.events) }
 {
     let mut notes = Vec::new(alloc);
     let mut screen = Screen::new(alloc, session.apps())?;
+    let panels = session.apps().len();
     for event in session.events() {
-        let panels = session.apps().len();
         notes.push(noted(alloc, &mut live, panels, &screen, *event)?)?;
         screen.take(event.line);
     }
@@ -86,7 +90,7 @@ fn notes_with<F: AliasCode, K: Fn(ServiceKind, Text) -> F>(
 ) -> Result<Vec<Note>, AllocError>
     requires make { K.IsAlwaysCallable make.now }
     requires services { MakesServices (K.post make.now) F.may_call F.may_reply }
-    ensures { IfOk result (λ notes. map told notes.items ≡ notes_from (λ (service : ServiceOf). answer_of service.kind service.config) (begun session.now (map services_in session.now.apps)) (at_first session.now.apps) session.now.events) }
+    ensures { IfOk result (λ notes. map told notes.items ≡ notes_from (λ (service : ServiceOf). answer_of service.kind service.config) (length session.now.apps) (begun session.now (map services_in session.now.apps)) (at_first session.now.apps) session.now.events) }
 {
     let live = begun(live_with(alloc, session, 64, make))?;
     follow(alloc, live, session)
@@ -94,7 +98,7 @@ fn notes_with<F: AliasCode, K: Fn(ServiceKind, Text) -> F>(
 
 /// What came of each line of a session, whose panels are played with the program's own services. An error where memory is refused.
 pub fn notes_of(alloc: Global, session: &Session) -> Result<Vec<Note>, AllocError>
-    ensures { IfOk result (λ notes. map told notes.items ≡ notes_from (λ (service : ServiceOf). answer_of service.kind service.config) (begun session.now (map services_in session.now.apps)) (at_first session.now.apps) session.now.events) }
+    ensures { IfOk result (λ notes. map told notes.items ≡ notes_from (λ (service : ServiceOf). answer_of service.kind service.config) (length session.now.apps) (begun session.now (map services_in session.now.apps)) (at_first session.now.apps) session.now.events) }
 {
     notes_with(
         alloc,

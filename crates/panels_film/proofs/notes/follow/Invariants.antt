@@ -7,4 +7,4 @@ use Rattle.panels_film.proofs.notes.follow.Given as goal
 -- those up to the index were told
 abbrev pub invariant-loop-event : goal.invariant-loop-event
 invariant-loop-event g l =
-    Noted g.M.AliasMeaning.answer (at_first l.session.apps) l.session.events l.event-index l.fn.live.held l.live.held (known l.screen) (map told l.notes.items)
+    Noted g.M.AliasMeaning.answer l.panels (at_first l.session.apps) l.session.events l.event-index l.fn.live.held l.live.held (known l.screen) (map told l.notes.items)

@@ -1,5 +1,5 @@
 -- The items of `switch` and the words of `foreach`, as they are read and as they are cut, and the iterations of `foreach`.
-use Rattle.std.proofs.Common.{◌≡◌, ◌≢◌, ◌↔◌, ℕ, zero, suc, ◌+◌, ◌-◌, ◌*◌, ◌%◌, ◌==◌, ◌<◌, ◌≤◌, ◌⊎◌, nat_lt, true, List, [], ◌∷◌, ◌++◌, length, drop, option_map, Option, Some, None, Result, Ok, Err, refl, ap, sym, subst, ◌∙◌, inl, inr, arith}
+use Rattle.std.proofs.Common.{◌≡◌, ◌≢◌, ◌↔◌, ℕ, zero, suc, ◌+◌, ◌-◌, ◌*◌, ◌%◌, ◌==◌, ◌<◌, ◌≤◌, min, ◌⊎◌, nat_lt, true, List, [], ◌∷◌, ◌++◌, length, drop, option_map, Option, Some, None, Result, Ok, Err, refl, ap, sym, subst, ◌∙◌, inl, inr, arith}
 use native.Mathlib.Nat.{mul-zero, mul-suc, mul-add-mod_self_left}
 use Rattle.std.proofs.lemmas.Bool.{lt-ltb, le-ltb, cases_lt}
 use Rattle.tcl_text.specs.Readings.{list_of, IsList}
@@ -8,7 +8,7 @@ use Rattle.tcl_text.specs.declared.fault.ListFault.{ListFault}
 use Rattle.tcl_commands.specs.declared.branches.Branch.{Branch}
 use Rattle.tcl_commands.specs.declared.groups.Group.{Group}
 use Rattle.tcl_commands.specs.Branches.{branch_of, arms_from, arms_of}
-use Rattle.tcl_commands.specs.Groups.{group_named, group_of, groups_from, groups_of, behind_group, has_body, has_more, next_place}
+use Rattle.tcl_commands.specs.Groups.{group_named, group_of, groups_from, groups_of, behind_group, has_body, has_more}
 use Rattle.tcl_commands.specs.Shapes.{arm_words, IsGroup, IsNoGroup, AreGroups, AreGroupsBeforeFault, AreFaulty, after_iterations}
 
 pairs_read : (arms : List Branch) → arms_from None (arm_words arms) ≡ Some arms
@@ -136,14 +136,14 @@ same_items (suc iterations) group = same_items iterations group
 abbrev IsReached : ℕ → ℕ → ℕ → Type 0
 IsReached place items asked = ((asked < items) × (place ≡ asked)) ⊎ ((items ≤ asked) × (place ≡ items))
 
-next_reached : (names items asked place : ℕ) → IsReached place items asked → IsReached (next_place names items place) items (asked + names)
-next_reached names items asked place is = by (cases_lt names (items - place)) is
+next_reached : (names items asked place : ℕ) → IsReached place items asked → IsReached (min (place + names) items) items (asked + names)
+next_reached names items asked place is = by (cases_lt (asked + names) items) is
   where
-    by : (names < items - place) ⊎ (items - place ≤ names) → IsReached place items asked → IsReached (next_place names items place) items (asked + names)
-    by (inl more) (inl at) = inl (omega (arith, more, at.0, at.1), rw (lt-ltb names (items - place) more) (omega (arith, at.1)))
-    by (inl more) (inr at) = absurd (omega (arith, more, at.1))
-    by (inr last) (inl at) = inr (omega (arith, last, at.0, at.1), rw (le-ltb names (items - place) last) refl)
-    by (inr last) (inr at) = inr (omega (arith, at.0), rw (le-ltb names (items - place) last) refl)
+    by : (asked + names < items) ⊎ (items ≤ asked + names) → IsReached place items asked → IsReached (min (place + names) items) items (asked + names)
+    by (inl more) (inl at) = inl (more, omega (arith, more, at.1))
+    by (inl more) (inr at) = absurd (omega (arith, more, at.0))
+    by (inr last) (inl at) = inr (last, omega (arith, last, at.1))
+    by (inr last) (inr at) = inr (last, omega (arith, at.1))
 
 reached : (iterations : ℕ) (group : Group) → group.next ≡ 0 → IsReached (after_iterations iterations group).next (length group.items) (length group.names * iterations)
 reached zero group first = by (cases_lt 0 (length group.items))
@@ -153,8 +153,8 @@ reached zero group first = by (cases_lt 0 (length group.items))
     by (inr none) = inr (rw (mul-zero (length group.names)) (none, omega (arith, first, none)))
 reached (suc iterations) group first =
     rw (mul-suc (length group.names) iterations)
-    (subst (λ (names : List (List ℕ)). IsReached (next_place (length names) (length (after_iterations iterations group).items) (after_iterations iterations group).next) (length group.items) (length group.names * iterations + length group.names)) (sym (same_names iterations group))
-    (subst (λ (items : List (List ℕ)). IsReached (next_place (length group.names) (length items) (after_iterations iterations group).next) (length group.items) (length group.names * iterations + length group.names)) (sym (same_items iterations group))
+    (subst (λ (names : List (List ℕ)). IsReached (min ((after_iterations iterations group).next + length names) (length (after_iterations iterations group).items)) (length group.items) (length group.names * iterations + length group.names)) (sym (same_names iterations group))
+    (subst (λ (items : List (List ℕ)). IsReached (min ((after_iterations iterations group).next + length group.names) (length items)) (length group.items) (length group.names * iterations + length group.names)) (sym (same_items iterations group))
     (next_reached (length group.names) (length group.items) (length group.names * iterations) (after_iterations iterations group).next (reached iterations group first))))
 
 drop_all : {X : Type 0} (xs : List X) (n : ℕ) → length xs ≤ n → drop n xs ≡ []

@@ -23,15 +23,15 @@ variable_command_named name =
     else (if bytes_eq name (codes "global") then Some command.Global
     else None))))))
 
--- what a command does, called in the frame at a level with the words after its name
+-- what a command does, called in a frame with the words after its name
 abbrev pub command_done : VariableCommand → ℕ → List (List ℕ) → Store → Done
-command_done command.Set level words store = set_words level words store
-command_done command.Unset level words store = unset_words level words store
-command_done command.Incr level words store = incr_words level words store
-command_done command.Append level words store = append_words level words store
-command_done command.Lappend level words store = lappend_words level words store
-command_done command.Array level words store = array_words level words store
-command_done command.Global level words store = global_words level words store
+command_done command.Set frame words store = set_words frame words store
+command_done command.Unset frame words store = unset_words frame words store
+command_done command.Incr frame words store = incr_words frame words store
+command_done command.Append frame words store = append_words frame words store
+command_done command.Lappend frame words store = lappend_words frame words store
+command_done command.Array frame words store = array_words frame words store
+command_done command.Global frame words store = global_words frame words store
 
 -- what is left and answered; no answer of another command
 pub record Handled : Type 0 where
@@ -42,10 +42,10 @@ abbrev pub handled : Done → Handled
 handled done = record { store = done.store; answer = Some done.answer }
 
 abbrev pub handled_by : Option VariableCommand → ℕ → List (List ℕ) → Store → Handled
-handled_by None level words store = record { store = store; answer = None }
-handled_by (Some command) level words store = handled (command_done command level words store)
+handled_by None frame words store = record { store = store; answer = None }
+handled_by (Some command) frame words store = handled (command_done command frame words store)
 
 -- the first word names the command
 abbrev pub variable_command_of : ℕ → List (List ℕ) → Store → Handled
-variable_command_of level [] store = record { store = store; answer = None }
-variable_command_of level (name ∷ words) store = handled_by (variable_command_named name) level words store
+variable_command_of frame [] store = record { store = store; answer = None }
+variable_command_of frame (name ∷ words) store = handled_by (variable_command_named name) frame words store

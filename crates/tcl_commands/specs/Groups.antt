@@ -1,5 +1,5 @@
 -- Meaning. The words of `foreach`: lists of names, each with a list of items.
-use Rattle.std.specs.Prelude.{ℕ, ◌+◌, ◌-◌, ◌%◌, ◌==◌, nat_lt, Bool, List, [], ◌∷◌, length, if◌then◌else◌, Option, Some, None, Result, Ok, Err, codes}
+use Rattle.std.specs.Prelude.{ℕ, ◌+◌, ◌%◌, ◌==◌, nat_lt, min, Bool, List, [], ◌∷◌, length, Option, Some, None, Result, Ok, Err, codes}
 use Rattle.tcl_text.specs.Readings.{list_of}
 use Rattle.tcl_text.specs.FaultTexts.{list_text}
 use Rattle.tcl_text.specs.declared.fault.ListFault.{ListFault}
@@ -39,13 +39,9 @@ groups_of words = groups_from None words
 abbrev pub has_body : List (List ℕ) → Bool
 has_body words = length words % 2 == 1
 
--- the place behind the items of an iteration
-abbrev pub next_place : ℕ → ℕ → ℕ → ℕ
-next_place names items next = if nat_lt names (items - next) then next + names else items
-
--- one iteration more was taken of the items
+-- One iteration more was taken of the items: as many as there are names, or all that were left.
 abbrev pub advanced : Group → Group
-advanced group = record group { next = next_place (length group.names) (length group.items) group.next }
+advanced group = record group { next = min (group.next + length group.names) (length group.items) }
 
 -- there are items left
 abbrev pub has_more : Group → Bool

@@ -26,15 +26,15 @@ global_told name (Err fault) = cannot_link (name_told name (global_name name) fa
 
 -- the name of a frame is linked to the global variable of that name
 abbrev pub global_step : ℕ → List ℕ → Store → Result Store (List ℕ)
-global_step level name store = global_told name (with_link store level (global_name name) 0 (global_name name))
+global_step frame name store = global_told name (with_link store frame (global_name name) 0 (global_name name))
 
 abbrev pub link_globals : ℕ → List (List ℕ) → Store → Done
-link_globals level names store = each_done (global_step level) names store
+link_globals frame names store = each_done (global_step frame) names store
 
 -- global name ?name ..?: in the global frame nothing is linked
 abbrev pub global_words : ℕ → List (List ℕ) → Store → Done
-global_words level [] store = keeps store (wrong_args (codes "global name ?name ..?"))
-global_words level (name ∷ names) store = if level == 0 then keeps store (Ok []) else link_globals level (name ∷ names) store
+global_words frame [] store = keeps store (wrong_args (codes "global name ?name ..?"))
+global_words frame (name ∷ names) store = if frame == 0 then keeps store (Ok []) else link_globals frame (name ∷ names) store
 
 abbrev pub link_told : List ℕ → Result Store LinkFault → Result Store (List ℕ)
 link_told name (Ok new) = Ok new
@@ -42,17 +42,17 @@ link_told name (Err fault) = cannot_link name fault
 
 -- the second name is linked to the first one in another frame
 abbrev pub upvar_step : ℕ → ℕ → List ℕ × List ℕ → Store → Result Store (List ℕ)
-upvar_step level to_level pair store = link_told pair.1 (with_link store level pair.1 to_level pair.0)
+upvar_step frame to_frame pair store = link_told pair.1 (with_link store frame pair.1 to_frame pair.0)
 
 abbrev pub link_pairs : ℕ → ℕ → List (List ℕ) → Store → Done
-link_pairs level to_level names store = each_done (upvar_step level to_level) (pairs names) store
+link_pairs frame to_frame names store = each_done (upvar_step frame to_frame) (pairs names) store
 
 -- how `upvar` is used
 abbrev pub upvar_usage : List ℕ
 upvar_usage = codes "upvar ?level? other mine ?other mine ..?"
 
 abbrev pub upvar_words : ℕ → ℕ → List (List ℕ) → Store → Done
-upvar_words level to_level [] store = keeps store (wrong_args upvar_usage)
-upvar_words level to_level (other ∷ names) store =
-    if length (other ∷ names) % 2 == 0 then link_pairs level to_level (other ∷ names) store
+upvar_words frame to_frame [] store = keeps store (wrong_args upvar_usage)
+upvar_words frame to_frame (other ∷ names) store =
+    if length (other ∷ names) % 2 == 0 then link_pairs frame to_frame (other ∷ names) store
     else keeps store (wrong_args upvar_usage)

@@ -13,14 +13,14 @@ unset_told true name store (Err fault) = Ok store
 unset_told false name store (Err fault) = cannot_unset name fault
 
 abbrev pub unset_step : Bool → ℕ → List ℕ → Store → Result Store (List ℕ)
-unset_step quiet level name store = unset_told quiet name store (without_variable store level name)
+unset_step quiet frame name store = unset_told quiet name store (without_variable store frame name)
 
 abbrev pub unset_each : Bool → ℕ → List (List ℕ) → Store → Done
-unset_each quiet level names store = each_done (unset_step quiet level) names store
+unset_each quiet frame names store = each_done (unset_step quiet frame) names store
 
 -- unset ?-nocomplain? ?name ..?
 abbrev pub unset_words : ℕ → List (List ℕ) → Store → Done
-unset_words level [] store = unset_each false level [] store
-unset_words level (first ∷ others) store =
-    if bytes_eq first (codes "-nocomplain") then unset_each true level others store
-    else unset_each false level (first ∷ others) store
+unset_words frame [] store = unset_each false frame [] store
+unset_words frame (first ∷ others) store =
+    if bytes_eq first (codes "-nocomplain") then unset_each true frame others store
+    else unset_each false frame (first ∷ others) store

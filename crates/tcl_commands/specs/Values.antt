@@ -23,9 +23,9 @@ value_set name value store (Err fault) = keeps store (cannot_set name fault)
 
 -- set name ?value?
 abbrev pub set_words : ℕ → List (List ℕ) → Store → Done
-set_words level (name ∷ []) store = keeps store (value_read name (variable_in store level name))
-set_words level (name ∷ value ∷ []) store = value_set name value store (with_variable store level name value)
-set_words level _ store = keeps store (wrong_args (codes "set name ?value?"))
+set_words frame (name ∷ []) store = keeps store (value_read name (variable_in store frame name))
+set_words frame (name ∷ value ∷ []) store = value_set name value store (with_variable store frame name value)
+set_words frame _ store = keeps store (wrong_args (codes "set name ?value?"))
 
 -- a variable's value, where one that isn't there counts as this text
 abbrev pub value_or : List ℕ → List ℕ → Result (List ℕ) ReadFault → Answer
@@ -41,12 +41,12 @@ value_changed absent name change read = value_or absent name read >>= change
 
 -- a variable is set to what came of its value
 abbrev pub changed_to : ℕ → List ℕ → Store → Answer → Done
-changed_to level name store (Ok value) = value_set name value store (with_variable store level name value)
-changed_to level name store (Err text) = keeps store (Err text)
+changed_to frame name store (Ok value) = value_set name value store (with_variable store frame name value)
+changed_to frame name store (Err text) = keeps store (Err text)
 
 -- a variable is changed, where one that isn't there counts as this text
 abbrev pub variable_changed : ℕ → List ℕ → List ℕ → (List ℕ → Answer) → Store → Done
-variable_changed level name absent change store = changed_to level name store (value_changed absent name change (variable_in store level name))
+variable_changed frame name absent change store = changed_to frame name store (value_changed absent name change (variable_in store frame name))
 
 -- a sum in 64 bits
 abbrev pub is_in_range : ℤ → Bool
@@ -70,14 +70,14 @@ amount_in (Some word) = integer_in word
 
 -- incr name ?n?
 abbrev pub incr_words : ℕ → List (List ℕ) → Store → Done
-incr_words level (name ∷ []) store = variable_changed level name (codes "0") (increased (amount_in None)) store
-incr_words level (name ∷ n ∷ []) store = variable_changed level name (codes "0") (increased (amount_in (Some n))) store
-incr_words level _ store = keeps store (wrong_args (codes "incr name ?n?"))
+incr_words frame (name ∷ []) store = variable_changed frame name (codes "0") (increased (amount_in None)) store
+incr_words frame (name ∷ n ∷ []) store = variable_changed frame name (codes "0") (increased (amount_in (Some n))) store
+incr_words frame _ store = keeps store (wrong_args (codes "incr name ?n?"))
 
 -- append name ?value ..?
 abbrev pub append_words : ℕ → List (List ℕ) → Store → Done
-append_words level (name ∷ values) store = variable_changed level name [] (λ value. answers (value ++ concat values)) store
-append_words level [] store = keeps store (wrong_args (codes "append name ?value ..?"))
+append_words frame (name ∷ values) store = variable_changed frame name [] (λ value. answers (value ++ concat values)) store
+append_words frame [] store = keeps store (wrong_args (codes "append name ?value ..?"))
 
 -- a list written anew with more items; without any it stays as it is written
 abbrev pub lengthened : List ℕ → List (List ℕ) → List (List ℕ) → Answer
@@ -91,10 +91,10 @@ with_items values value = do
 
 -- lappend name ?value ..?
 abbrev pub lappend_words : ℕ → List (List ℕ) → Store → Done
-lappend_words level (name ∷ values) store = variable_changed level name [] (with_items values) store
-lappend_words level [] store = keeps store (wrong_args (codes "lappend name ?value ..?"))
+lappend_words frame (name ∷ values) store = variable_changed frame name [] (with_items values) store
+lappend_words frame [] store = keeps store (wrong_args (codes "lappend name ?value ..?"))
 
 -- info exists name
 abbrev pub exists_words : ℕ → List (List ℕ) → Store → Answer
-exists_words level (name ∷ []) store = truth (has_variable store level name)
-exists_words level _ store = wrong_args (codes "info exists name")
+exists_words frame (name ∷ []) store = truth (has_variable store frame name)
+exists_words frame _ store = wrong_args (codes "info exists name")

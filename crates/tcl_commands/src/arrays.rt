@@ -34,16 +34,16 @@ pub enum ArrayCommand {
 
 /// `array option ?arg ..?`.
 #[tactic(auto, using(crate::proofs::DoneLemmas::kept))]
-pub fn array_words(alloc: Global, scopes: &mut Scopes, level: usize, words: &[Text]) -> Reply
-    requires { level < length scopes.old }
-    ensures does { Does result scopes.new (spec.array_words level words.now scopes.old) }
+pub fn array_words(alloc: Global, scopes: &mut Scopes, frame: usize, words: &[Text]) -> Reply
+    requires { frame < length scopes.old }
+    ensures does { Does result scopes.new (spec.array_words frame words.now scopes.old) }
     ensures levels { length scopes.new ≡ length scopes.old }
 {
     let Some((name, words)) = words.split_first() else {
         return wrong_args(alloc, "array option ?arg ..?");
     };
     match ArrayCommand::named(name.as_str()) {
-        Some(command) => command.done(alloc, scopes, level, words),
+        Some(command) => command.done(alloc, scopes, frame, words),
         None => bad_option(alloc, name),
     }
 }
@@ -67,53 +67,53 @@ impl ArrayCommand {
 
     /// What a sub-command does, called with the words after its name.
     #[tactic(auto, using(crate::proofs::DoneLemmas::kept))]
-    fn done(self, alloc: Global, scopes: &mut Scopes, level: usize, words: &[Text]) -> Reply
-        requires { level < length scopes.old }
-        ensures does { Does result scopes.new (spec.array_done self level words.now scopes.old) }
+    fn done(self, alloc: Global, scopes: &mut Scopes, frame: usize, words: &[Text]) -> Reply
+        requires { frame < length scopes.old }
+        ensures does { Does result scopes.new (spec.array_done self frame words.now scopes.old) }
         ensures levels { length scopes.new ≡ length scopes.old }
     {
         match self {
-            ArrayCommand::Exists => array_exists(alloc, scopes, level, words),
-            ArrayCommand::Names => array_names(alloc, scopes, level, words),
-            ArrayCommand::Get => array_get(alloc, scopes, level, words),
-            ArrayCommand::Set => array_set(alloc, scopes, level, words),
-            ArrayCommand::Unset => array_unset(alloc, scopes, level, words),
-            ArrayCommand::Size => array_size(alloc, scopes, level, words),
+            ArrayCommand::Exists => array_exists(alloc, scopes, frame, words),
+            ArrayCommand::Names => array_names(alloc, scopes, frame, words),
+            ArrayCommand::Get => array_get(alloc, scopes, frame, words),
+            ArrayCommand::Set => array_set(alloc, scopes, frame, words),
+            ArrayCommand::Unset => array_unset(alloc, scopes, frame, words),
+            ArrayCommand::Size => array_size(alloc, scopes, frame, words),
         }
     }
 }
 
-fn array_exists(alloc: Global, scopes: &Scopes, level: usize, words: &[Text]) -> Reply
-    requires { level < length scopes.now }
-    ensures { Gives result (spec.array_exists level words.now scopes.now) }
+fn array_exists(alloc: Global, scopes: &Scopes, frame: usize, words: &[Text]) -> Reply
+    requires { frame < length scopes.now }
+    ensures { Gives result (spec.array_exists frame words.now scopes.now) }
 {
     match words {
-        [name] => truth_answer(alloc, scopes.has_array(level, name)),
+        [name] => truth_answer(alloc, scopes.has_array(frame, name)),
         _ => wrong_args(alloc, "array exists name"),
     }
 }
 
-fn array_size(alloc: Global, scopes: &Scopes, level: usize, words: &[Text]) -> Reply
-    requires { level < length scopes.now }
-    ensures { Gives result (spec.array_size level words.now scopes.now) }
+fn array_size(alloc: Global, scopes: &Scopes, frame: usize, words: &[Text]) -> Reply
+    requires { frame < length scopes.now }
+    ensures { Gives result (spec.array_size frame words.now scopes.now) }
 {
     match words {
-        [name] => decimal_answer(alloc, scopes.array_size(level, name)),
+        [name] => decimal_answer(alloc, scopes.array_size(frame, name)),
         _ => wrong_args(alloc, "array size name"),
     }
 }
 
-fn array_names(alloc: Global, scopes: &Scopes, level: usize, words: &[Text]) -> Reply
-    requires { level < length scopes.now }
-    ensures { Gives result (spec.array_names level words.now scopes.now) }
+fn array_names(alloc: Global, scopes: &Scopes, frame: usize, words: &[Text]) -> Reply
+    requires { frame < length scopes.now }
+    ensures { Gives result (spec.array_names frame words.now scopes.now) }
 {
     match words {
         [name] => {
-            let names = scopes.array_names(level, name)?;
+            let names = scopes.array_names(frame, name)?;
             list_answer(alloc, names.as_slice())
         }
         [name, pattern] => {
-            let names = names_wanted(alloc, scopes, level, name, pattern)?;
+            let names = names_wanted(alloc, scopes, frame, name, pattern)?;
             list_answer(alloc, names.as_slice())
         }
         _ => wrong_args(alloc, "array names name ?pattern?"),
@@ -125,15 +125,15 @@ fn array_names(alloc: Global, scopes: &Scopes, level: usize, words: &[Text]) -> 
 fn names_wanted(
     alloc: Global,
     scopes: &Scopes,
-    level: usize,
+    frame: usize,
     name: &Text,
     pattern: &Text,
 ) -> Result<TextList, AllocError>
-    requires { level < length scopes.now }
+    requires { frame < length scopes.now }
     ensures { IfOk result (λ names. names
-        ≡ map (λ e. e.0) (spec.elements_wanted (Some pattern.now) (spec.elements_named level name.now scopes.now))) }
+        ≡ map (λ e. e.0) (spec.elements_wanted (Some pattern.now) (spec.elements_named frame name.now scopes.now))) }
 {
-    let names = scopes.array_names(level, name)?;
+    let names = scopes.array_names(frame, name)?;
     names_matching(alloc, pattern, names.as_slice())
 }
 
@@ -152,17 +152,17 @@ fn names_matching(alloc: Global, pattern: &Text, names: &[Text]) -> Result<TextL
     Ok(wanted)
 }
 
-fn array_get(alloc: Global, scopes: &Scopes, level: usize, words: &[Text]) -> Reply
-    requires { level < length scopes.now }
-    ensures { Gives result (spec.array_get level words.now scopes.now) }
+fn array_get(alloc: Global, scopes: &Scopes, frame: usize, words: &[Text]) -> Reply
+    requires { frame < length scopes.now }
+    ensures { Gives result (spec.array_get frame words.now scopes.now) }
 {
     match words {
         [name] => {
-            let pairs = scopes.array_pairs(level, name)?;
+            let pairs = scopes.array_pairs(frame, name)?;
             list_answer(alloc, pairs.as_slice())
         }
         [name, pattern] => {
-            let pairs = pairs_wanted(alloc, scopes, level, name, pattern)?;
+            let pairs = pairs_wanted(alloc, scopes, frame, name, pattern)?;
             list_answer(alloc, pairs.as_slice())
         }
         _ => wrong_args(alloc, "array get name ?pattern?"),
@@ -174,15 +174,15 @@ fn array_get(alloc: Global, scopes: &Scopes, level: usize, words: &[Text]) -> Re
 fn pairs_wanted(
     alloc: Global,
     scopes: &Scopes,
-    level: usize,
+    frame: usize,
     name: &Text,
     pattern: &Text,
 ) -> Result<TextList, AllocError>
-    requires { level < length scopes.now }
+    requires { frame < length scopes.now }
     ensures { IfOk result (λ pairs. pairs
-        ≡ pairs_of (spec.elements_wanted (Some pattern.now) (spec.elements_named level name.now scopes.now))) }
+        ≡ pairs_of (spec.elements_wanted (Some pattern.now) (spec.elements_named frame name.now scopes.now))) }
 {
-    let pairs = scopes.array_pairs(level, name)?;
+    let pairs = scopes.array_pairs(frame, name)?;
     pairs_matching(alloc, pattern, pairs.as_slice())
 }
 
@@ -202,30 +202,30 @@ fn pairs_matching(alloc: Global, pattern: &Text, pairs: &[Text]) -> Result<TextL
     Ok(wanted)
 }
 
-fn array_unset(alloc: Global, scopes: &mut Scopes, level: usize, words: &[Text]) -> Reply
-    requires { level < length scopes.old }
-    ensures does { Does result scopes.new (spec.array_unset level words.now scopes.old) }
+fn array_unset(alloc: Global, scopes: &mut Scopes, frame: usize, words: &[Text]) -> Reply
+    requires { frame < length scopes.old }
+    ensures does { Does result scopes.new (spec.array_unset frame words.now scopes.old) }
     ensures levels { length scopes.new ≡ length scopes.old }
 {
     match words {
-        [name] => unset_array(alloc, scopes, level, name),
+        [name] => unset_array(alloc, scopes, frame, name),
         [name, pattern] => {
-            let names = names_wanted(alloc, scopes, level, name, pattern)?;
-            unset_elements(alloc, scopes, level, name, names.as_slice())
+            let names = names_wanted(alloc, scopes, frame, name, pattern)?;
+            unset_elements(alloc, scopes, frame, name, names.as_slice())
         }
         _ => wrong_args(alloc, "array unset name ?pattern?"),
     }
 }
 
 /// Unsets a variable, if it is an array.
-fn unset_array(alloc: Global, scopes: &mut Scopes, level: usize, name: &Text) -> Reply
-    requires { level < length scopes.old }
+fn unset_array(alloc: Global, scopes: &mut Scopes, frame: usize, name: &Text) -> Reply
+    requires { frame < length scopes.old }
     ensures does { Does result scopes.new
-        (spec.unset_array level name.now scopes.old (elements_in scopes.old level name.now)) }
+        (spec.unset_array frame name.now scopes.old (elements_in scopes.old frame name.now)) }
     ensures levels { length scopes.new ≡ length scopes.old }
 {
-    if scopes.has_array(level, name) {
-        unset_one(alloc, scopes, true, level, name)?;
+    if scopes.has_array(frame, name) {
+        unset_one(alloc, scopes, true, frame, name)?;
     }
     Ok(Text::empty())
 }
@@ -235,17 +235,17 @@ fn unset_array(alloc: Global, scopes: &mut Scopes, level: usize, name: &Text) ->
 fn unset_elements(
     alloc: Global,
     scopes: &mut Scopes,
-    level: usize,
+    frame: usize,
     name: &Text,
     indices: &[Text],
 ) -> Reply
-    requires { level < length scopes.old }
-    ensures does { Does result scopes.new (each_done (spec.unset_element level name.now) indices.now scopes.old) }
+    requires { frame < length scopes.old }
+    ensures does { Does result scopes.new (each_done (spec.unset_element frame name.now) indices.now scopes.old) }
     ensures levels { length scopes.new ≡ length scopes.old }
 {
     let mut rest = indices;
     while let [index, others @ ..] = rest {
-        unset_element(scopes, level, name, index)?;
+        unset_element(scopes, frame, name, index)?;
         rest = others;
     }
     Ok(Text::empty())
@@ -254,42 +254,42 @@ fn unset_elements(
 /// Unsets an element, if it is there.
 fn unset_element(
     scopes: &mut Scopes,
-    level: usize,
+    frame: usize,
     name: &Text,
     index: &Text,
 ) -> Result<(), Refusal>
-    requires { level < length scopes.old }
-    ensures steps { Steps result scopes.old scopes.new (spec.unset_element level name.now index.now scopes.old) }
+    requires { frame < length scopes.old }
+    ensures steps { Steps result scopes.old scopes.new (spec.unset_element frame name.now index.now scopes.old) }
     ensures levels { length scopes.new ≡ length scopes.old }
 {
-    match scopes.unset_element(level, name, index) {
+    match scopes.unset_element(frame, name, index) {
         Ok(()) => Ok(()),
         Err(UnsetFault::NoMemory) => Err(Refusal::NoMemory),
         Err(_) => Ok(()),
     }
 }
 
-fn array_set(alloc: Global, scopes: &mut Scopes, level: usize, words: &[Text]) -> Reply
-    requires { level < length scopes.old }
-    ensures does { Does result scopes.new (spec.array_set level words.now scopes.old) }
+fn array_set(alloc: Global, scopes: &mut Scopes, frame: usize, words: &[Text]) -> Reply
+    requires { frame < length scopes.old }
+    ensures does { Does result scopes.new (spec.array_set frame words.now scopes.old) }
     ensures levels { length scopes.new ≡ length scopes.old }
 {
     match words {
-        [name, list] => set_list(alloc, scopes, level, name, list),
+        [name, list] => set_list(alloc, scopes, frame, name, list),
         _ => wrong_args(alloc, "array set name list"),
     }
 }
 
 /// Sets the elements that a list gives, keys and values in turn.
-fn set_list(alloc: Global, scopes: &mut Scopes, level: usize, name: &Text, list: &Text) -> Reply
-    requires { level < length scopes.old }
-    ensures does { Does result scopes.new (spec.set_list level name.now scopes.old (items_of list.now)) }
+fn set_list(alloc: Global, scopes: &mut Scopes, frame: usize, name: &Text, list: &Text) -> Reply
+    requires { frame < length scopes.old }
+    ensures does { Does result scopes.new (spec.set_list frame name.now scopes.old (items_of list.now)) }
     ensures levels { length scopes.new ≡ length scopes.old }
 {
     let items = items_in(alloc, list)?;
     match odd_key(items.as_slice()) {
         Some(key) => missing_value(alloc, key.as_str()),
-        None => set_items(alloc, scopes, level, name, items.as_slice()),
+        None => set_items(alloc, scopes, frame, name, items.as_slice()),
     }
 }
 
@@ -304,28 +304,28 @@ fn odd_key(items: &[Text]) -> Option<&Text>
     rest.first()
 }
 
-fn set_items(alloc: Global, scopes: &mut Scopes, level: usize, name: &Text, items: &[Text]) -> Reply
-    requires { level < length scopes.old }
-    ensures does { Does result scopes.new (spec.set_items level name.now items.now scopes.old) }
+fn set_items(alloc: Global, scopes: &mut Scopes, frame: usize, name: &Text, items: &[Text]) -> Reply
+    requires { frame < length scopes.old }
+    ensures does { Does result scopes.new (spec.set_items frame name.now items.now scopes.old) }
     ensures levels { length scopes.new ≡ length scopes.old }
 {
     if items.is_empty() {
-        make_array(alloc, scopes, level, name)?;
+        make_array(alloc, scopes, frame, name)?;
         return Ok(Text::empty());
     }
-    if scopes.is_element(level, name) {
+    if scopes.is_element(frame, name) {
         return cannot_set(alloc, name.as_str(), SetFault::NotArray);
     }
-    set_each(alloc, scopes, level, name, items)
+    set_each(alloc, scopes, frame, name, items)
 }
 
 /// Makes an array without elements, where there is no variable.
-fn make_array(alloc: Global, scopes: &mut Scopes, level: usize, name: &Text) -> Result<(), Refusal>
-    requires { level < length scopes.old }
-    ensures steps { Steps result scopes.old scopes.new (spec.make_array level name.now scopes.old) }
+fn make_array(alloc: Global, scopes: &mut Scopes, frame: usize, name: &Text) -> Result<(), Refusal>
+    requires { frame < length scopes.old }
+    ensures steps { Steps result scopes.old scopes.new (spec.make_array frame name.now scopes.old) }
     ensures levels { length scopes.new ≡ length scopes.old }
 {
-    match scopes.make_array(level, name) {
+    match scopes.make_array(frame, name) {
         Ok(()) => Ok(()),
         Err(SetFault::NoMemory) => Err(Refusal::NoMemory),
         Err(fault) => cannot_set(alloc, name.as_str(), fault),
@@ -333,14 +333,14 @@ fn make_array(alloc: Global, scopes: &mut Scopes, level: usize, name: &Text) -> 
 }
 
 #[tactic(auto, using(crate::proofs::EachLemmas::steps))]
-fn set_each(alloc: Global, scopes: &mut Scopes, level: usize, name: &Text, items: &[Text]) -> Reply
-    requires { level < length scopes.old }
-    ensures does { Does result scopes.new (each_done (spec.set_element level name.now) (pairs items.now) scopes.old) }
+fn set_each(alloc: Global, scopes: &mut Scopes, frame: usize, name: &Text, items: &[Text]) -> Reply
+    requires { frame < length scopes.old }
+    ensures does { Does result scopes.new (each_done (spec.set_element frame name.now) (pairs items.now) scopes.old) }
     ensures levels { length scopes.new ≡ length scopes.old }
 {
     let mut rest = items;
     while let [key, value, others @ ..] = rest {
-        set_element(alloc, scopes, level, name, key, value)?;
+        set_element(alloc, scopes, frame, name, key, value)?;
         rest = others;
     }
     Ok(Text::empty())
@@ -350,19 +350,19 @@ fn set_each(alloc: Global, scopes: &mut Scopes, level: usize, name: &Text, items
 fn set_element(
     alloc: Global,
     scopes: &mut Scopes,
-    level: usize,
+    frame: usize,
     name: &Text,
     key: &Text,
     value: &Text,
 ) -> Result<(), Refusal>
-    requires { level < length scopes.old }
-    ensures steps { Steps result scopes.old scopes.new (spec.set_element level name.now (key.now, value.now) scopes.old) }
+    requires { frame < length scopes.old }
+    ensures steps { Steps result scopes.old scopes.new (spec.set_element frame name.now (key.now, value.now) scopes.old) }
     ensures levels { length scopes.new ≡ length scopes.old }
 {
     if name.as_str().len() + key.as_str().len() + 2 > MAX_BYTES {
         return Err(limit_reached(alloc));
     }
-    match scopes.set_element(level, name, key, value.copy()?) {
+    match scopes.set_element(frame, name, key, value.copy()?) {
         Ok(()) => Ok(()),
         Err(SetFault::NoMemory) => Err(Refusal::NoMemory),
         Err(fault) => cannot_set_element(alloc, name.as_str(), key.as_str(), fault),

@@ -26,18 +26,18 @@ pub enum VariableCommand {
     Global,
 }
 
-/// What a command on variables does, called in the frame at a level with words of which the first is its name: its
+/// What a command on variables does, called in a frame with words of which the first is its name: its
 /// result, or the text of its error. None, and nothing is done, where the first word names no such command, or there
 /// is no word. `info exists` and `upvar` stand apart, since other forms of theirs know more than variables. Level 0 is
 /// that of the global frame. The errors are those of `call_variable_command`.
 pub fn variable_command(
     alloc: Global,
     scopes: &mut Scopes,
-    level: usize,
+    frame: usize,
     words: &[Text],
 ) -> Result<Option<Result<Text, Text>>, AllocError>
-    requires { level < length scopes.old }
-    ensures does { IfOk result (λ answer. record { store = scopes.new; answer = answer } ≡ spec.variable_command_of level words.now scopes.old) }
+    requires { frame < length scopes.old }
+    ensures does { IfOk result (λ answer. record { store = scopes.new; answer = answer } ≡ spec.variable_command_of frame words.now scopes.old) }
     ensures levels { length scopes.new ≡ length scopes.old }
 {
     let Some((name, arguments)) = words.split_first() else {
@@ -46,29 +46,29 @@ pub fn variable_command(
     let Some(command) = VariableCommand::named(name.as_str()) else {
         return Ok(None);
     };
-    match command.done(alloc, scopes, level, arguments) {
+    match command.done(alloc, scopes, frame, arguments) {
         Ok(text) => Ok(Some(Ok(text))),
         Err(Refusal::Error(message)) => Ok(Some(Err(message))),
         Err(Refusal::NoMemory) => Err(AllocError),
     }
 }
 
-/// What a command on variables does, called in the frame at a level with the words after its name: its result, or the text of
+/// What a command on variables does, called in a frame with the words after its name: its result, or the text of
 /// its error: no integer (1) or a sum past 64 bits (13) of `incr`, no list (3), a text past 65,536 bytes (4), what can't be read,
 /// set or unset (15 to 18), more than 4,096 variables (19), a key without a value of `array set` (23), and those without a
 /// number. Where memory is refused, `set` and `incr` have changed nothing, and the others may have done a part.
 pub fn call_variable_command(
     alloc: Global,
     scopes: &mut Scopes,
-    level: usize,
+    frame: usize,
     command: VariableCommand,
     words: &[Text],
 ) -> Result<Result<Text, Text>, AllocError>
-    requires { level < length scopes.old }
-    ensures does { IfOk result (λ answer. record { store = scopes.new; answer = answer } ≡ spec.command_done command level words.now scopes.old) }
+    requires { frame < length scopes.old }
+    ensures does { IfOk result (λ answer. record { store = scopes.new; answer = answer } ≡ spec.command_done command frame words.now scopes.old) }
     ensures levels { length scopes.new ≡ length scopes.old }
 {
-    match command.done(alloc, scopes, level, words) {
+    match command.done(alloc, scopes, frame, words) {
         Ok(text) => Ok(Ok(text)),
         Err(Refusal::Error(message)) => Ok(Err(message)),
         Err(Refusal::NoMemory) => Err(AllocError),
@@ -94,19 +94,19 @@ impl VariableCommand {
     }
 
     /// What a command does, called with the words after its name.
-    fn done(self, alloc: Global, scopes: &mut Scopes, level: usize, words: &[Text]) -> Reply
-        requires { level < length scopes.old }
-        ensures does { Does result scopes.new (spec.command_done self level words.now scopes.old) }
+    fn done(self, alloc: Global, scopes: &mut Scopes, frame: usize, words: &[Text]) -> Reply
+        requires { frame < length scopes.old }
+        ensures does { Does result scopes.new (spec.command_done self frame words.now scopes.old) }
         ensures levels { length scopes.new ≡ length scopes.old }
     {
         match self {
-            VariableCommand::Set => set_words(alloc, scopes, level, words),
-            VariableCommand::Unset => unset_words(alloc, scopes, level, words),
-            VariableCommand::Incr => incr_words(alloc, scopes, level, words),
-            VariableCommand::Append => append_words(alloc, scopes, level, words),
-            VariableCommand::Lappend => lappend_words(alloc, scopes, level, words),
-            VariableCommand::Array => array_words(alloc, scopes, level, words),
-            VariableCommand::Global => global_words(alloc, scopes, level, words),
+            VariableCommand::Set => set_words(alloc, scopes, frame, words),
+            VariableCommand::Unset => unset_words(alloc, scopes, frame, words),
+            VariableCommand::Incr => incr_words(alloc, scopes, frame, words),
+            VariableCommand::Append => append_words(alloc, scopes, frame, words),
+            VariableCommand::Lappend => lappend_words(alloc, scopes, frame, words),
+            VariableCommand::Array => array_words(alloc, scopes, frame, words),
+            VariableCommand::Global => global_words(alloc, scopes, frame, words),
         }
     }
 }
@@ -116,35 +116,35 @@ impl VariableCommand {
 pub fn info_exists(
     alloc: Global,
     scopes: &Scopes,
-    level: usize,
+    frame: usize,
     words: &[Text],
 ) -> Result<Result<Text, Text>, AllocError>
-    requires { level < length scopes.now }
-    ensures { IfOk result (λ answer. answer ≡ exists_words level words.now scopes.now) }
+    requires { frame < length scopes.now }
+    ensures { IfOk result (λ answer. answer ≡ exists_words frame words.now scopes.now) }
 {
-    match exists_words(alloc, scopes, level, words) {
+    match exists_words(alloc, scopes, frame, words) {
         Ok(text) => Ok(Ok(text)),
         Err(Refusal::Error(message)) => Ok(Err(message)),
         Err(Refusal::NoMemory) => Err(AllocError),
     }
 }
 
-/// `upvar` with the words behind its level: links names of the frame at a level to names of the frame at an earlier
+/// `upvar` with the words behind its level: links names of a frame to names of the frame at an earlier
 /// one (upvar(n)), up to the first that can't be. The answer is the command's result, which is empty, or the text of its error:
 /// more than 4,096 variables (19), or one without a number: a wrong number of words, a name that can't be a link's, one that is taken.
 pub fn upvar_command(
     alloc: Global,
     scopes: &mut Scopes,
-    level: usize,
-    to_level: usize,
+    frame: usize,
+    to_frame: usize,
     words: &[Text],
 ) -> Result<Result<Text, Text>, AllocError>
-    requires level { level < length scopes.old }
-    requires earlier { to_level < level }
-    ensures does { IfOk result (λ answer. record { store = scopes.new; answer = answer } ≡ upvar_words level to_level words.now scopes.old) }
+    requires level { frame < length scopes.old }
+    requires earlier { to_frame < frame }
+    ensures does { IfOk result (λ answer. record { store = scopes.new; answer = answer } ≡ upvar_words frame to_frame words.now scopes.old) }
     ensures levels { length scopes.new ≡ length scopes.old }
 {
-    match upvar_words(alloc, scopes, level, to_level, words) {
+    match upvar_words(alloc, scopes, frame, to_frame, words) {
         Ok(text) => Ok(Ok(text)),
         Err(Refusal::Error(message)) => Ok(Err(message)),
         Err(Refusal::NoMemory) => Err(AllocError),

@@ -1,8 +1,8 @@
-ghost use Rattle.std.specs.Prelude.{◌≡◌, ◌++◌, map, length, IfOk};
+ghost use Rattle.std.specs.Prelude.{◌≡◌, ◌+◌, ◌++◌, min, map, length, IfOk};
 ghost use Rattle.std.specs.List.{list_any};
 ghost use Rattle.tcl_text.specs.Readings.{list_of};
 ghost use Rattle.tcl_commands.specs.Ahead.{FollowsGroup};
-ghost use Rattle.tcl_commands.specs.Groups.{group_named, group_of, groups_from, groups_of, has_body, next_place, advanced, has_more};
+ghost use Rattle.tcl_commands.specs.Groups.{group_named, group_of, groups_from, groups_of, has_body, advanced, has_more};
 
 use crate::listing::Listing;
 use std::alloc::{AllocError, Global};
@@ -53,7 +53,7 @@ fn past_iteration(group: Group) -> Group
 }
 
 fn next_place(names: usize, items: usize, next: usize) -> usize
-    ensures { result ≡ next_place names items next }
+    ensures { result ≡ min (next + names) items }
 {
     if next < items && names < items - next {
         next + names

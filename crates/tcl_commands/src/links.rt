@@ -11,20 +11,20 @@ use tcl_vars::{LinkFault, Scopes, element_of};
 /// `global name ?name ..?`: each name of the frame becomes a link to the global variable of that name, up to the
 /// first that can't. In the global frame it does nothing.
 #[tactic(auto, using(crate::proofs::DoneLemmas::kept, crate::proofs::EachLemmas::steps))]
-pub fn global_words(alloc: Global, scopes: &mut Scopes, level: usize, words: &[Text]) -> Reply
-    requires { level < length scopes.old }
-    ensures does { Does result scopes.new (spec.global_words level words.now scopes.old) }
+pub fn global_words(alloc: Global, scopes: &mut Scopes, frame: usize, words: &[Text]) -> Reply
+    requires { frame < length scopes.old }
+    ensures does { Does result scopes.new (spec.global_words frame words.now scopes.old) }
     ensures levels { length scopes.new ≡ length scopes.old }
 {
     if words.is_empty() {
         return wrong_args(alloc, "global name ?name ..?");
     }
-    if level == 0 {
+    if frame == 0 {
         return Ok(Text::empty());
     }
     let mut rest = words;
     while let [name, others @ ..] = rest {
-        link_global(alloc, scopes, level, name)?;
+        link_global(alloc, scopes, frame, name)?;
         rest = others;
     }
     Ok(Text::empty())
@@ -33,14 +33,14 @@ pub fn global_words(alloc: Global, scopes: &mut Scopes, level: usize, words: &[T
 /// Links a name of the frame to the global variable of that name; more than 4,096 variables are refused (19), and a name that can't be
 /// used, or exists, without a number.
 #[tactic(auto, unfolding(tcl_text::specs::Messages::bounded))]
-fn link_global(alloc: Global, scopes: &mut Scopes, level: usize, name: &Text) -> Result<(), Refusal>
-    requires above { 0 < level }
-    requires level { level < length scopes.old }
-    ensures steps { Steps result scopes.old scopes.new (spec.global_step level name.now scopes.old) }
+fn link_global(alloc: Global, scopes: &mut Scopes, frame: usize, name: &Text) -> Result<(), Refusal>
+    requires above { 0 < frame }
+    requires level { frame < length scopes.old }
+    ensures steps { Steps result scopes.old scopes.new (spec.global_step frame name.now scopes.old) }
     ensures levels { length scopes.new ≡ length scopes.old }
 {
     let global = global_name(alloc, name)?;
-    match scopes.link(level, &global, 0, &global) {
+    match scopes.link(frame, &global, 0, &global) {
         Ok(()) => Ok(()),
         Err(LinkFault::NoMemory) => Err(Refusal::NoMemory),
         Err(fault) => {
@@ -79,13 +79,13 @@ pub const UPVAR_USAGE: &str = "upvar ?level? other mine ?other mine ..?";
 pub fn upvar_words(
     alloc: Global,
     scopes: &mut Scopes,
-    level: usize,
-    to_level: usize,
+    frame: usize,
+    to_frame: usize,
     words: &[Text],
 ) -> Reply
-    requires level { level < length scopes.old }
-    requires earlier { to_level < level }
-    ensures does { Does result scopes.new (spec.upvar_words level to_level words.now scopes.old) }
+    requires level { frame < length scopes.old }
+    requires earlier { to_frame < frame }
+    ensures does { Does result scopes.new (spec.upvar_words frame to_frame words.now scopes.old) }
     ensures levels { length scopes.new ≡ length scopes.old }
 {
     if words.is_empty() || words.len() % 2 != 0 {
@@ -93,7 +93,7 @@ pub fn upvar_words(
     }
     let mut rest = words;
     while let [other, name, others @ ..] = rest {
-        link_one(alloc, scopes, level, to_level, other, name)?;
+        link_one(alloc, scopes, frame, to_frame, other, name)?;
         rest = others;
     }
     Ok(Text::empty())
@@ -104,17 +104,17 @@ pub fn upvar_words(
 fn link_one(
     alloc: Global,
     scopes: &mut Scopes,
-    level: usize,
-    to_level: usize,
+    frame: usize,
+    to_frame: usize,
     other: &Text,
     name: &Text,
 ) -> Result<(), Refusal>
-    requires level { level < length scopes.old }
-    requires earlier { to_level < level }
-    ensures steps { Steps result scopes.old scopes.new (spec.upvar_step level to_level (other.now, name.now) scopes.old) }
+    requires level { frame < length scopes.old }
+    requires earlier { to_frame < frame }
+    ensures steps { Steps result scopes.old scopes.new (spec.upvar_step frame to_frame (other.now, name.now) scopes.old) }
     ensures levels { length scopes.new ≡ length scopes.old }
 {
-    match scopes.link(level, name, to_level, other) {
+    match scopes.link(frame, name, to_frame, other) {
         Ok(()) => Ok(()),
         Err(LinkFault::NoMemory) => Err(Refusal::NoMemory),
         Err(fault) => Err(Refusal::Error(fault.text(alloc, name.as_str())?)),

@@ -9,16 +9,16 @@ use tcl_text::answers::{Refusal, Reply};
 use tcl_vars::{Scopes, UnsetFault};
 
 /// `unset ?-nocomplain? ?name ..?`: each is unset up to the first that can't be; with the switch, each that can be.
-pub fn unset_words(alloc: Global, scopes: &mut Scopes, level: usize, words: &[Text]) -> Reply
-    requires { level < length scopes.old }
-    ensures does { Does result scopes.new (spec.unset_words level words.now scopes.old) }
+pub fn unset_words(alloc: Global, scopes: &mut Scopes, frame: usize, words: &[Text]) -> Reply
+    requires { frame < length scopes.old }
+    ensures does { Does result scopes.new (spec.unset_words frame words.now scopes.old) }
     ensures levels { length scopes.new ≡ length scopes.old }
 {
     match words {
         [first, others @ ..] if first.as_str() == "-nocomplain" => {
-            unset_each(alloc, scopes, true, level, others)
+            unset_each(alloc, scopes, true, frame, others)
         }
-        names => unset_each(alloc, scopes, false, level, names),
+        names => unset_each(alloc, scopes, false, frame, names),
     }
 }
 
@@ -28,16 +28,16 @@ fn unset_each(
     alloc: Global,
     scopes: &mut Scopes,
     quiet: bool,
-    level: usize,
+    frame: usize,
     names: &[Text],
 ) -> Reply
-    requires { level < length scopes.old }
-    ensures does { Does result scopes.new (spec.unset_each quiet level names.now scopes.old) }
+    requires { frame < length scopes.old }
+    ensures does { Does result scopes.new (spec.unset_each quiet frame names.now scopes.old) }
     ensures levels { length scopes.new ≡ length scopes.old }
 {
     let mut rest = names;
     while let [name, others @ ..] = rest {
-        unset_one(alloc, scopes, quiet, level, name)?;
+        unset_one(alloc, scopes, quiet, frame, name)?;
         rest = others;
     }
     Ok(Text::empty())
@@ -49,14 +49,14 @@ pub fn unset_one(
     alloc: Global,
     scopes: &mut Scopes,
     quiet: bool,
-    level: usize,
+    frame: usize,
     name: &Text,
 ) -> Result<(), Refusal>
-    requires { level < length scopes.old }
-    ensures steps { Steps result scopes.old scopes.new (spec.unset_step quiet level name.now scopes.old) }
+    requires { frame < length scopes.old }
+    ensures steps { Steps result scopes.old scopes.new (spec.unset_step quiet frame name.now scopes.old) }
     ensures levels { length scopes.new ≡ length scopes.old }
 {
-    match scopes.unset(level, name) {
+    match scopes.unset(frame, name) {
         Ok(()) => Ok(()),
         Err(UnsetFault::NoMemory) => Err(Refusal::NoMemory),
         Err(fault) => {

@@ -20,25 +20,25 @@ use tcl_vars::{ChangeFault, ReadFault, Scopes, SetFault};
 
 /// `set name ?value?`: the variable's value, or the value that it is set to.
 #[tactic(auto, using(crate::proofs::DoneLemmas::kept))]
-pub fn set_words(alloc: Global, scopes: &mut Scopes, level: usize, words: &[Text]) -> Reply
-    requires { level < length scopes.old }
-    ensures does { Does result scopes.new (spec.set_words level words.now scopes.old) }
+pub fn set_words(alloc: Global, scopes: &mut Scopes, frame: usize, words: &[Text]) -> Reply
+    requires { frame < length scopes.old }
+    ensures does { Does result scopes.new (spec.set_words frame words.now scopes.old) }
     ensures no_memory { IfNoMemory result (scopes.new ≡ scopes.old) }
     ensures levels { length scopes.new ≡ length scopes.old }
 {
     match words {
-        [name] => value_of(alloc, scopes, level, name),
-        [name, value] => set_to(alloc, scopes, level, name, value.copy()?),
+        [name] => value_of(alloc, scopes, frame, name),
+        [name, value] => set_to(alloc, scopes, frame, name, value.copy()?),
         _ => wrong_args(alloc, "set name ?value?"),
     }
 }
 
 /// The value of a variable.
-fn value_of(alloc: Global, scopes: &Scopes, level: usize, name: &Text) -> Reply
-    requires { level < length scopes.now }
-    ensures { Gives result (spec.value_read name.now (variable_in scopes.now level name.now)) }
+fn value_of(alloc: Global, scopes: &Scopes, frame: usize, name: &Text) -> Reply
+    requires { frame < length scopes.now }
+    ensures { Gives result (spec.value_read name.now (variable_in scopes.now frame name.now)) }
 {
-    match scopes.get(level, name) {
+    match scopes.get(frame, name) {
         Ok(value) => Ok(value.copy()?),
         Err(fault) => cannot_read(alloc, name.as_str(), fault),
     }
@@ -46,15 +46,15 @@ fn value_of(alloc: Global, scopes: &Scopes, level: usize, name: &Text) -> Reply
 
 /// Sets a variable to a value, which is the answer.
 #[tactic(auto, using(crate::proofs::DoneLemmas::not_set))]
-fn set_to(alloc: Global, scopes: &mut Scopes, level: usize, name: &Text, value: Text) -> Reply
-    requires { level < length scopes.old }
+fn set_to(alloc: Global, scopes: &mut Scopes, frame: usize, name: &Text, value: Text) -> Reply
+    requires { frame < length scopes.old }
     ensures does { Does result scopes.new
-        (spec.value_set name.now value scopes.old (with_variable scopes.old level name.now value)) }
+        (spec.value_set name.now value scopes.old (with_variable scopes.old frame name.now value)) }
     ensures no_memory { IfNoMemory result (scopes.new ≡ scopes.old) }
     ensures levels { length scopes.new ≡ length scopes.old }
 {
     let answer = value.copy()?;
-    match scopes.set(level, name, value) {
+    match scopes.set(frame, name, value) {
         Ok(()) => Ok(answer),
         Err(SetFault::NoMemory) => Err(Refusal::NoMemory),
         Err(fault) => cannot_set(alloc, name.as_str(), fault),
@@ -63,15 +63,15 @@ fn set_to(alloc: Global, scopes: &mut Scopes, level: usize, name: &Text, value: 
 
 /// `incr name ?n?`: the sum of the variable and n, to which the variable is set.
 #[tactic(auto, using(crate::proofs::DoneLemmas::kept))]
-pub fn incr_words(alloc: Global, scopes: &mut Scopes, level: usize, words: &[Text]) -> Reply
-    requires { level < length scopes.old }
-    ensures does { Does result scopes.new (spec.incr_words level words.now scopes.old) }
+pub fn incr_words(alloc: Global, scopes: &mut Scopes, frame: usize, words: &[Text]) -> Reply
+    requires { frame < length scopes.old }
+    ensures does { Does result scopes.new (spec.incr_words frame words.now scopes.old) }
     ensures no_memory { IfNoMemory result (scopes.new ≡ scopes.old) }
     ensures levels { length scopes.new ≡ length scopes.old }
 {
     match words {
-        [name] => increase(alloc, scopes, level, name, None),
-        [name, amount] => increase(alloc, scopes, level, name, Some(amount)),
+        [name] => increase(alloc, scopes, frame, name, None),
+        [name, amount] => increase(alloc, scopes, frame, name, Some(amount)),
         _ => wrong_args(alloc, "incr name ?n?"),
     }
 }
@@ -81,33 +81,33 @@ pub fn incr_words(alloc: Global, scopes: &mut Scopes, level: usize, words: &[Tex
 fn increase(
     alloc: Global,
     scopes: &mut Scopes,
-    level: usize,
+    frame: usize,
     name: &Text,
     amount: Option<&Text>,
 ) -> Reply
-    requires { level < length scopes.old }
+    requires { frame < length scopes.old }
     ensures does { Does result scopes.new
-        (spec.variable_changed level name.now (codes "0") (spec.increased (spec.amount_in (option_copied amount.entry))) scopes.old) }
+        (spec.variable_changed frame name.now (codes "0") (spec.increased (spec.amount_in (option_copied amount.entry))) scopes.old) }
     ensures no_memory { IfNoMemory result (scopes.new ≡ scopes.old) }
     ensures levels { length scopes.new ≡ length scopes.old }
 {
-    let sum = increased(alloc, scopes, level, name, amount)?;
-    set_to(alloc, scopes, level, name, sum)
+    let sum = increased(alloc, scopes, frame, name, amount)?;
+    set_to(alloc, scopes, frame, name, sum)
 }
 
 /// The sum of a variable and an amount, or 1.
 fn increased(
     alloc: Global,
     scopes: &Scopes,
-    level: usize,
+    frame: usize,
     name: &Text,
     amount: Option<&Text>,
 ) -> Reply
-    requires { level < length scopes.now }
+    requires { frame < length scopes.now }
     ensures { Gives result
-        (spec.value_changed (codes "0") name.now (spec.increased (spec.amount_in (option_copied amount.entry))) (variable_in scopes.now level name.now)) }
+        (spec.value_changed (codes "0") name.now (spec.increased (spec.amount_in (option_copied amount.entry))) (variable_in scopes.now frame name.now)) }
 {
-    let value = value_or(alloc, scopes, level, name, "0")?;
+    let value = value_or(alloc, scopes, frame, name, "0")?;
     let held = integer_of(alloc, &value)?;
     let amount = amount_in(alloc, amount)?;
     sum_of(alloc, held, amount)
@@ -135,12 +135,12 @@ fn sum_of(alloc: Global, a: i64, b: i64) -> Reply
 }
 
 /// The value of a variable, where one that isn't there counts as these characters.
-fn value_or(alloc: Global, scopes: &Scopes, level: usize, name: &Text, absent: &str) -> Reply
-    requires level { level < length scopes.now }
+fn value_or(alloc: Global, scopes: &Scopes, frame: usize, name: &Text, absent: &str) -> Reply
+    requires level { frame < length scopes.now }
     requires short { length absent.now ≤ most_in_place }
-    ensures { Gives result (spec.value_or absent.now name.now (variable_in scopes.now level name.now)) }
+    ensures { Gives result (spec.value_or absent.now name.now (variable_in scopes.now frame name.now)) }
 {
-    match scopes.get(level, name) {
+    match scopes.get(frame, name) {
         Ok(value) => Ok(value.copy()?),
         Err(ReadFault::NoVariable) => Ok(Text::of_short(alloc, absent)?),
         Err(ReadFault::NoElement) => Ok(Text::of_short(alloc, absent)?),
@@ -150,57 +150,57 @@ fn value_or(alloc: Global, scopes: &Scopes, level: usize, name: &Text, absent: &
 
 /// `append name ?value ..?`: the variable with the values behind it, to which it is set.
 #[tactic(auto, using(crate::proofs::DoneLemmas::kept))]
-pub fn append_words(alloc: Global, scopes: &mut Scopes, level: usize, words: &[Text]) -> Reply
-    requires { level < length scopes.old }
-    ensures does { Does result scopes.new (spec.append_words level words.now scopes.old) }
+pub fn append_words(alloc: Global, scopes: &mut Scopes, frame: usize, words: &[Text]) -> Reply
+    requires { frame < length scopes.old }
+    ensures does { Does result scopes.new (spec.append_words frame words.now scopes.old) }
     ensures levels { length scopes.new ≡ length scopes.old }
 {
     match words {
-        [name, value] => append_one(alloc, scopes, level, name, value),
-        [name, values @ ..] => append(alloc, scopes, level, name, values),
+        [name, value] => append_one(alloc, scopes, frame, name, value),
+        [name, values @ ..] => append(alloc, scopes, frame, name, values),
         [] => wrong_args(alloc, "append name ?value ..?"),
     }
 }
 
 /// Adds one value behind a variable, which needs no text of its own.
-fn append_one(alloc: Global, scopes: &mut Scopes, level: usize, name: &Text, value: &Text) -> Reply
-    requires { level < length scopes.old }
+fn append_one(alloc: Global, scopes: &mut Scopes, frame: usize, name: &Text, value: &Text) -> Reply
+    requires { frame < length scopes.old }
     ensures does { Does result scopes.new
-        (spec.variable_changed level name.now [] (λ text. answers (text ++ concat (value.now ∷ []))) scopes.old) }
+        (spec.variable_changed frame name.now [] (λ text. answers (text ++ concat (value.now ∷ []))) scopes.old) }
     ensures levels { length scopes.new ≡ length scopes.old }
 {
-    change(alloc, scopes, level, name, Edit::Characters(value.as_str()))
+    change(alloc, scopes, frame, name, Edit::Characters(value.as_str()))
 }
 
 /// Adds values behind a variable.
-fn append(alloc: Global, scopes: &mut Scopes, level: usize, name: &Text, values: &[Text]) -> Reply
-    requires { level < length scopes.old }
+fn append(alloc: Global, scopes: &mut Scopes, frame: usize, name: &Text, values: &[Text]) -> Reply
+    requires { frame < length scopes.old }
     ensures does { Does result scopes.new
-        (spec.variable_changed level name.now [] (λ value. answers (value ++ concat values.now)) scopes.old) }
+        (spec.variable_changed frame name.now [] (λ value. answers (value ++ concat values.now)) scopes.old) }
     ensures levels { length scopes.new ≡ length scopes.old }
 {
     let Some(size) = total(values) else {
-        return Err(beyond_limit(alloc, scopes, level, name, values));
+        return Err(beyond_limit(alloc, scopes, frame, name, values));
     };
     let mut more = String::with_capacity(alloc, size)?;
     push_all(&mut more, values)?;
-    change(alloc, scopes, level, name, Edit::Characters(more.as_str()))
+    change(alloc, scopes, frame, name, Edit::Characters(more.as_str()))
 }
 
 /// Why values that are too long aren't added behind a variable: it can't be read, or the text would be too long. They aren't joined for that.
 fn beyond_limit(
     alloc: Global,
     scopes: &Scopes,
-    level: usize,
+    frame: usize,
     name: &Text,
     values: &[Text],
 ) -> Refusal
-    requires level { level < length scopes.now }
+    requires level { frame < length scopes.now }
     requires long { most_bytes < length (concat values.now) }
     ensures { Gives {T = List ℕ} (Err result)
-        (spec.value_changed [] name.now (λ value. answers (value ++ concat values.now)) (variable_in scopes.now level name.now)) }
+        (spec.value_changed [] name.now (λ value. answers (value ++ concat values.now)) (variable_in scopes.now frame name.now)) }
 {
-    match value_or(alloc, scopes, level, name, "") {
+    match value_or(alloc, scopes, frame, name, "") {
         Ok(_value) => limit_reached(alloc),
         Err(refusal) => refusal,
     }
@@ -208,18 +208,18 @@ fn beyond_limit(
 
 /// Changes a variable in place, where one that isn't there counts as empty.
 #[tactic(auto, unfolding(tcl_text::specs::Messages::bounded))]
-fn change(alloc: Global, scopes: &mut Scopes, level: usize, name: &Text, edit: Edit<'_>) -> Reply
-    requires { level < length scopes.old }
-    ensures does { Does result scopes.new (spec.variable_changed level name.now [] (edit_answer edit.entry) scopes.old) }
+fn change(alloc: Global, scopes: &mut Scopes, frame: usize, name: &Text, edit: Edit<'_>) -> Reply
+    requires { frame < length scopes.old }
+    ensures does { Does result scopes.new (spec.variable_changed frame name.now [] (edit_answer edit.entry) scopes.old) }
     ensures levels { length scopes.new ≡ length scopes.old }
 {
-    match scopes.change(level, name, edit) {
-        Ok(()) => value_of(alloc, scopes, level, name),
+    match scopes.change(frame, name, edit) {
+        Ok(()) => value_of(alloc, scopes, frame, name),
         Err(ChangeFault::Unread(ReadFault::NoVariable)) => {
-            set_edited(alloc, scopes, level, name, edit)
+            set_edited(alloc, scopes, frame, name, edit)
         }
         Err(ChangeFault::Unread(ReadFault::NoElement)) => {
-            set_edited(alloc, scopes, level, name, edit)
+            set_edited(alloc, scopes, frame, name, edit)
         }
         Err(ChangeFault::NoMemory) => Err(Refusal::NoMemory),
         Err(fault) => Err(Refusal::Error(fault.text(alloc, name.as_str())?)),
@@ -231,16 +231,16 @@ fn change(alloc: Global, scopes: &mut Scopes, level: usize, name: &Text, edit: E
 fn set_edited(
     alloc: Global,
     scopes: &mut Scopes,
-    level: usize,
+    frame: usize,
     name: &Text,
     edit: Edit<'_>,
 ) -> Reply
-    requires { level < length scopes.old }
-    ensures does { Does result scopes.new (spec.changed_to level name.now scopes.old (edit_answer edit.entry [])) }
+    requires { frame < length scopes.old }
+    ensures does { Does result scopes.new (spec.changed_to frame name.now scopes.old (edit_answer edit.entry [])) }
     ensures levels { length scopes.new ≡ length scopes.old }
 {
     let value = edited_empty(alloc, edit)?;
-    set_to(alloc, scopes, level, name, value)
+    set_to(alloc, scopes, frame, name, value)
 }
 
 /// What becomes of the empty text.
@@ -269,52 +269,52 @@ fn push_all(string: &mut String, texts: &[Text]) -> Result<(), AllocError>
 
 /// `lappend name ?value ..?`: the list that the variable is with the values behind its items, to which it is set.
 #[tactic(auto, using(crate::proofs::DoneLemmas::kept))]
-pub fn lappend_words(alloc: Global, scopes: &mut Scopes, level: usize, words: &[Text]) -> Reply
-    requires { level < length scopes.old }
-    ensures does { Does result scopes.new (spec.lappend_words level words.now scopes.old) }
+pub fn lappend_words(alloc: Global, scopes: &mut Scopes, frame: usize, words: &[Text]) -> Reply
+    requires { frame < length scopes.old }
+    ensures does { Does result scopes.new (spec.lappend_words frame words.now scopes.old) }
     ensures levels { length scopes.new ≡ length scopes.old }
 {
     match words {
-        [name, values @ ..] => lappend(alloc, scopes, level, name, values),
+        [name, values @ ..] => lappend(alloc, scopes, frame, name, values),
         [] => wrong_args(alloc, "lappend name ?value ..?"),
     }
 }
 
 /// Adds values as items to the list that a variable is.
 #[tactic(auto, using(crate::proofs::DoneLemmas::changes))]
-fn lappend(alloc: Global, scopes: &mut Scopes, level: usize, name: &Text, values: &[Text]) -> Reply
-    requires { level < length scopes.old }
+fn lappend(alloc: Global, scopes: &mut Scopes, frame: usize, name: &Text, values: &[Text]) -> Reply
+    requires { frame < length scopes.old }
     ensures does { Does result scopes.new
-        (spec.variable_changed level name.now [] (spec.with_items values.now) scopes.old) }
+        (spec.variable_changed frame name.now [] (spec.with_items values.now) scopes.old) }
     ensures levels { length scopes.new ≡ length scopes.old }
 {
     match values {
         [] => {
-            let list = list_of(alloc, scopes, level, name)?;
-            set_to(alloc, scopes, level, name, list)
+            let list = list_of(alloc, scopes, frame, name)?;
+            set_to(alloc, scopes, frame, name, list)
         }
-        _ => change(alloc, scopes, level, name, Edit::Items(values)),
+        _ => change(alloc, scopes, frame, name, Edit::Items(values)),
     }
 }
 
 /// The list that a variable is, as it is written.
-fn list_of(alloc: Global, scopes: &Scopes, level: usize, name: &Text) -> Reply
-    requires { level < length scopes.now }
+fn list_of(alloc: Global, scopes: &Scopes, frame: usize, name: &Text) -> Reply
+    requires { frame < length scopes.now }
     ensures { Gives result
-        (spec.value_changed [] name.now (spec.with_items []) (variable_in scopes.now level name.now)) }
+        (spec.value_changed [] name.now (spec.with_items []) (variable_in scopes.now frame name.now)) }
 {
-    let value = value_or(alloc, scopes, level, name, "")?;
+    let value = value_or(alloc, scopes, frame, name, "")?;
     let _items = items_in(alloc, &value)?;
     Ok(value)
 }
 
 /// `info exists name`: whether there is a variable or element.
-pub fn exists_words(alloc: Global, scopes: &Scopes, level: usize, words: &[Text]) -> Reply
-    requires { level < length scopes.now }
-    ensures { Gives result (spec.exists_words level words.now scopes.now) }
+pub fn exists_words(alloc: Global, scopes: &Scopes, frame: usize, words: &[Text]) -> Reply
+    requires { frame < length scopes.now }
+    ensures { Gives result (spec.exists_words frame words.now scopes.now) }
 {
     match words {
-        [name] => truth_answer(alloc, scopes.exists(level, name)),
+        [name] => truth_answer(alloc, scopes.exists(frame, name)),
         _ => wrong_args(alloc, "info exists name"),
     }
 }

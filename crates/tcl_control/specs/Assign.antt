@@ -23,8 +23,8 @@ first_item (item ∷ items) = item
 
 -- names are given items in turn; missing items are empty
 abbrev pub assigned : ℕ → List (List ℕ) → List (List ℕ) → Store → Assigned
-assigned level [] items store = done store
-assigned level (name ∷ names) items store = on_set name store (assigned level names (drop 1 items)) (with_variable store level name (first_item items))
+assigned frame [] items store = done store
+assigned frame (name ∷ names) items store = on_set name store (assigned frame names (drop 1 items)) (with_variable store frame name (first_item items))
 
 abbrev pub behind_assigned : (Store → Assigned) → Assigned → Option (List ℕ) → Assigned
 behind_assigned rest assigned None = rest assigned.store
@@ -35,5 +35,5 @@ on_assigned rest assigned = behind_assigned rest assigned assigned.refused
 
 -- the names of groups are given the items of an iteration
 abbrev pub groups_assigned : ℕ → List Group → Store → Assigned
-groups_assigned level [] store = done store
-groups_assigned level (group ∷ groups) store = on_assigned (groups_assigned level groups) (assigned level group.names (drop group.next group.items) store)
+groups_assigned frame [] store = done store
+groups_assigned frame (group ∷ groups) store = on_assigned (groups_assigned frame groups) (assigned frame group.names (drop group.next group.items) store)

@@ -200,10 +200,10 @@ texts_plan (Err text) = failed_plan text
 
 -- info option ?arg ..?
 abbrev pub info_plan : ℕ → ℕ → Store → List (List ℕ) → Plan
-info_plan count level store [] = misused usage.Info
-info_plan count level store (option ∷ words) =
+info_plan count frame store [] = misused usage.Info
+info_plan count frame store (option ∷ words) =
     if bytes_eq option (codes "level") then level_plan count words
-    else (if bytes_eq option (codes "exists") then texts_plan (exists_words level words store)
+    else (if bytes_eq option (codes "exists") then texts_plan (exists_words frame words store)
     else bad_option_plan option)
 
 -- ── variables ──
@@ -229,5 +229,5 @@ stored_ending number name store (Err fault) = record { store = store; code = Err
 
 -- a script has ended so: its code is answered, and its result is put into the variable
 abbrev pub caught_ending : ℕ → Option (List ℕ) → Code → List ℕ → Store → Ending
-caught_ending level None code text store = record { store = store; code = Normal; text = code_number code }
-caught_ending level (Some name) code text store = stored_ending (code_number code) name store (with_variable store level name text)
+caught_ending frame None code text store = record { store = store; code = Normal; text = code_number code }
+caught_ending frame (Some name) code text store = stored_ending (code_number code) name store (with_variable store frame name text)

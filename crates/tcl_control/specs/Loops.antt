@@ -21,4 +21,4 @@ after_assigned groups assigned = by_assigned groups assigned.store assigned.refu
 
 -- names are given their items, where some are left and variables are those of a level
 abbrev pub items_tested : ℕ → List Group → Store → Tested
-items_tested level groups store = if list_any has_more groups then after_assigned groups (groups_assigned level groups store) else NoMore store
+items_tested frame groups store = if list_any has_more groups then after_assigned groups (groups_assigned frame groups store) else NoMore store

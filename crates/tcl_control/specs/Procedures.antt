@@ -39,16 +39,16 @@ value_for fallback [] = unwrap_or fallback []
 value_for fallback (word ∷ words) = word
 
 abbrev pub rest_set : ℕ → List ℕ → Store → List ℕ → Assigned
-rest_set level name store form =
-    if nat_le (length form) most_bytes then on_set name store done (with_variable store level name form)
+rest_set frame name store form =
+    if nat_le (length form) most_bytes then on_set name store done (with_variable store frame name form)
     else record { store = store; refused = Some limit_text }
 
 -- the parameters are given their words, up to the first that is refused
 abbrev pub entered : ℕ → List Parameter → List (List ℕ) → Store → Assigned
-entered level [] words store = done store
-entered level (parameter ∷ parameters) words store =
-    if is_rest parameter parameters then rest_set level parameter.name store (list_form words)
-    else on_set parameter.name store (entered level parameters (drop 1 words)) (with_variable store level parameter.name (value_for parameter.fallback words))
+entered frame [] words store = done store
+entered frame (parameter ∷ parameters) words store =
+    if is_rest parameter parameters then rest_set frame parameter.name store (list_form words)
+    else on_set parameter.name store (entered frame parameters (drop 1 words)) (with_variable store frame parameter.name (value_for parameter.fallback words))
 
 abbrev pub usage_word : Parameter → List Parameter → Option (List ℕ) → List ℕ
 usage_word parameter parameters None = if is_rest parameter parameters then codes "?arg ..?" else parameter.name
@@ -69,11 +69,11 @@ pub record ProcedureCalled : Type 0 where
   pub plan : Plan
 
 abbrev pub by_entered : List ℕ → ℕ → List ℕ → Assigned → Option (List ℕ) → ProcedureCalled
-by_entered body level levels assigned None = record { store = assigned.store; levels = levels ++ level ∷ []; plan = Enters body }
-by_entered body level levels assigned (Some text) = record { store = popped assigned.store; levels = levels; plan = failed_plan text }
+by_entered body frame levels assigned None = record { store = assigned.store; levels = levels ++ frame ∷ []; plan = Enters body }
+by_entered body frame levels assigned (Some text) = record { store = popped assigned.store; levels = levels; plan = failed_plan text }
 
 abbrev pub entered_call : Procedure → ℕ → List ℕ → Assigned → ProcedureCalled
-entered_call procedure level levels assigned = by_entered procedure.body level levels assigned assigned.refused
+entered_call procedure frame levels assigned = by_entered procedure.body frame levels assigned assigned.refused
 
 -- a procedure is called with these words behind a name
 abbrev pub procedure_call : List ℕ → Procedure → List (List ℕ) → Store → List ℕ → ProcedureCalled

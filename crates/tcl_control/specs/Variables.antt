@@ -31,9 +31,9 @@ variable_ending command levels words store = done_ending (command_done command (
 
 -- names are linked to those of the frame that this level names, which must be an earlier one
 abbrev pub linked_ending : List ℕ → List (List ℕ) → ℕ → Store → Option ℕ → Ending
-linked_ending word names level store None = record { store = store; code = Error; text = bad_level word }
-linked_ending word names level store (Some place) =
-    if nat_lt place level then done_ending (upvar_words level place names store)
+linked_ending word names frame store None = record { store = store; code = Error; text = bad_level word }
+linked_ending word names frame store (Some place) =
+    if nat_lt place frame then done_ending (upvar_words frame place names store)
     else record { store = store; code = Error; text = bad_level word }
 
 -- the place of the frame where only so many of the levels are

@@ -11,16 +11,16 @@ use tcl_vars::{Scopes, SetFault};
 pub fn set_one(
     alloc: Global,
     scopes: &mut Scopes,
-    level: usize,
+    frame: usize,
     name: &Text,
     value: Text,
 ) -> Result<Option<Text>, AllocError>
-    requires { level < length scopes.old }
+    requires { frame < length scopes.old }
     ensures set { IfOk result (λ refused. record { store = scopes.new; refused = refused }
-        ≡ on_set name.now scopes.old done (with_variable scopes.old level name.now value)) }
+        ≡ on_set name.now scopes.old done (with_variable scopes.old frame name.now value)) }
     ensures levels { length scopes.new ≡ length scopes.old }
 {
-    match scopes.set(level, name, value) {
+    match scopes.set(frame, name, value) {
         Ok(()) => Ok(None),
         Err(SetFault::NoMemory) => Err(AllocError),
         Err(fault) => Ok(Some(fault.text(alloc, name.as_str())?)),
@@ -49,19 +49,19 @@ fn behind_item(items: &ListItems, at: usize) -> usize
 fn assign_names(
     alloc: Global,
     scopes: &mut Scopes,
-    level: usize,
+    frame: usize,
     names: &[Text],
     items: &ListItems,
     from: usize,
 ) -> Result<Option<Text>, AllocError>
-    requires { level < length scopes.old }
-    ensures set { IfOk result (λ refused. record { store = scopes.new; refused = refused } ≡ assigned level names.now (drop from items.now) scopes.old) }
+    requires { frame < length scopes.old }
+    ensures set { IfOk result (λ refused. record { store = scopes.new; refused = refused } ≡ assigned frame names.now (drop from items.now) scopes.old) }
     ensures levels { length scopes.new ≡ length scopes.old }
 {
     let mut at = from;
     for name in names {
         let value = item_at(alloc, items, at)?;
-        match set_one(alloc, scopes, level, name, value)? {
+        match set_one(alloc, scopes, frame, name, value)? {
             Some(text) => return Ok(Some(text)),
             None => at = behind_item(items, at),
         }
@@ -73,18 +73,18 @@ fn assign_names(
 pub fn assign_groups(
     alloc: Global,
     scopes: &mut Scopes,
-    level: usize,
+    frame: usize,
     groups: &[Group],
 ) -> Result<Option<Text>, AllocError>
-    requires { level < length scopes.old }
-    ensures set { IfOk result (λ refused. record { store = scopes.new; refused = refused } ≡ groups_assigned level groups.now scopes.old) }
+    requires { frame < length scopes.old }
+    ensures set { IfOk result (λ refused. record { store = scopes.new; refused = refused } ≡ groups_assigned frame groups.now scopes.old) }
     ensures levels { length scopes.new ≡ length scopes.old }
 {
     for group in groups {
         let refused = assign_names(
             alloc,
             scopes,
-            level,
+            frame,
             group.names.as_slice(),
             &group.items,
             group.next,

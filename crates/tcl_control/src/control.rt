@@ -423,11 +423,11 @@ fn info_plan(
     alloc: Global,
     scopes: &Scopes,
     count: usize,
-    level: usize,
+    frame: usize,
     words: &[Text],
 ) -> Result<Plan, AllocError>
-    requires { level < length scopes.now }
-    ensures { IfOk result (λ plan. plan ≡ info_plan count level scopes.now words.now) }
+    requires { frame < length scopes.now }
+    ensures { IfOk result (λ plan. plan ≡ info_plan count frame scopes.now words.now) }
 {
     let [option, rest @ ..] = words else {
         return misused(alloc, Usage::Info);
@@ -435,7 +435,7 @@ fn info_plan(
     if option.as_str() == "level" {
         level_plan(alloc, count, rest)
     } else if option.as_str() == "exists" {
-        Ok(plan_of(info_exists(alloc, scopes, level, rest)?))
+        Ok(plan_of(info_exists(alloc, scopes, frame, rest)?))
     } else {
         bad_option_plan(alloc, option)
     }
@@ -496,9 +496,9 @@ fn builtin_call(
         Builtin::Foreach => Ok(Call::Plans(foreach_plan(alloc, &mut context.commands, words)?)),
         Builtin::If => Ok(Call::Plans(if_plan(alloc, words)?)),
         Builtin::Info => {
-            let level = context.levels.here(scopes);
+            let frame = context.levels.here(scopes);
             let count = context.levels.count();
-            Ok(Call::Plans(info_plan(alloc, scopes, count, level, words)?))
+            Ok(Call::Plans(info_plan(alloc, scopes, count, frame, words)?))
         }
         Builtin::Proc => Ok(Call::Plans(proc_plan(alloc, context, words)?)),
         Builtin::Rename => Ok(Call::Plans(rename_plan(alloc, context, words)?)),
@@ -565,16 +565,16 @@ fn code_number(code: Code) -> &'static str
 fn caught_into(
     alloc: Global,
     scopes: &mut Scopes,
-    level: usize,
+    frame: usize,
     name: &Text,
     number: Text,
     text: Text,
 ) -> Result<End, AllocError>
-    requires { level < length scopes.old }
+    requires { frame < length scopes.old }
     ensures { IfOk result (λ end. record { store = scopes.new; code = end.code; text = end.text }
-        ≡ stored_ending number name.now scopes.old (with_variable scopes.old level name.now text)) }
+        ≡ stored_ending number name.now scopes.old (with_variable scopes.old frame name.now text)) }
 {
-    match scopes.set(level, name, text) {
+    match scopes.set(frame, name, text) {
         Ok(()) => Ok(End {
             code: Code::Normal,
             text: number,
@@ -589,13 +589,13 @@ fn caught_into(
 pub fn caught(
     alloc: Global,
     scopes: &mut Scopes,
-    level: usize,
+    frame: usize,
     name: Option<Text>,
     code: Code,
     text: Text,
 ) -> Result<End, AllocError>
-    requires { level < length scopes.old }
-    ensures { IfOk result (λ end. record { store = scopes.new; code = end.code; text = end.text } ≡ caught_ending level name code text scopes.old) }
+    requires { frame < length scopes.old }
+    ensures { IfOk result (λ end. record { store = scopes.new; code = end.code; text = end.text } ≡ caught_ending frame name code text scopes.old) }
 {
     let number = Text::of_short(alloc, code_number(code))?;
     match name {
@@ -603,6 +603,6 @@ pub fn caught(
             code: Code::Normal,
             text: number,
         }),
-        Some(name) => caught_into(alloc, scopes, level, &name, number, text),
+        Some(name) => caught_into(alloc, scopes, frame, &name, number, text),
     }
 }

@@ -78,21 +78,21 @@ pub enum Verdict {
     Fails(Text),
 }
 
-/// The test of `foreach` before an iteration: where items are left, the variables in the frame at a level are given theirs, the empty text where
+/// The test of `foreach` before an iteration: where items are left, the variables in a frame are given theirs, the empty text where
 /// a list has none left (foreach(n)). Where one can't be set, it is that error (17 to 19), and those before it stay set.
 pub fn items_tested(
     alloc: Global,
     scopes: &mut Scopes,
-    level: usize,
+    frame: usize,
     groups: Groups,
 ) -> Result<Verdict, AllocError>
-    requires { level < length scopes.old }
-    ensures { IfOk result (λ verdict. tested_as verdict scopes.new ≡ items_tested level groups scopes.old) }
+    requires { frame < length scopes.old }
+    ensures { IfOk result (λ verdict. tested_as verdict scopes.new ≡ items_tested frame groups scopes.old) }
 {
     if !groups.has_more() {
         return Ok(Verdict::NoMore);
     }
-    match assign_groups(alloc, scopes, level, groups.as_slice())? {
+    match assign_groups(alloc, scopes, frame, groups.as_slice())? {
         Some(text) => Ok(Verdict::Fails(text)),
         None => Ok(Verdict::More(groups.advanced(alloc)?)),
     }

@@ -72,16 +72,16 @@ fn behind_first(words: &[Text]) -> &[Text]
 fn set_rest(
     alloc: Global,
     scopes: &mut Scopes,
-    level: usize,
+    frame: usize,
     name: &Text,
     words: &[Text],
 ) -> Result<Option<Text>, AllocError>
-    requires { level < length scopes.old }
-    ensures set { IfOk result (λ refused. record { store = scopes.new; refused = refused } ≡ rest_set level name.now scopes.old (list_form words.now)) }
+    requires { frame < length scopes.old }
+    ensures set { IfOk result (λ refused. record { store = scopes.new; refused = refused } ≡ rest_set frame name.now scopes.old (list_form words.now)) }
     ensures levels { length scopes.new ≡ length scopes.old }
 {
     match Text::join_list(alloc, words) {
-        Ok(form) => set_one(alloc, scopes, level, name, form),
+        Ok(form) => set_one(alloc, scopes, frame, name, form),
         Err(TextFault::TooLong) => Ok(Some(limit(alloc)?)),
         Err(TextFault::NoMemory) => Err(AllocError),
     }
@@ -91,22 +91,22 @@ fn set_rest(
 fn enter(
     alloc: Global,
     scopes: &mut Scopes,
-    level: usize,
+    frame: usize,
     parameters: &[Parameter],
     words: &[Text],
 ) -> Result<Option<Text>, AllocError>
-    requires { level < length scopes.old }
-    ensures set { IfOk result (λ refused. record { store = scopes.new; refused = refused } ≡ entered level parameters.now words.now scopes.old) }
+    requires { frame < length scopes.old }
+    ensures set { IfOk result (λ refused. record { store = scopes.new; refused = refused } ≡ entered frame parameters.now words.now scopes.old) }
     ensures levels { length scopes.new ≡ length scopes.old }
 {
     let mut left = parameters;
     let mut rest = words;
     'parameters: while let [parameter, behind @ ..] = left {
         if is_rest(parameter, behind) {
-            return set_rest(alloc, scopes, level, &parameter.name, rest);
+            return set_rest(alloc, scopes, frame, &parameter.name, rest);
         }
         let value = value_for(alloc, &parameter.fallback, rest)?;
-        match set_one(alloc, scopes, level, &parameter.name, value)? {
+        match set_one(alloc, scopes, frame, &parameter.name, value)? {
             Some(text) => return Ok(Some(text)),
             None => {}
         }
@@ -174,11 +174,11 @@ pub fn call_procedure(
     if !fits(parameters, words) {
         return Ok(Plan::Ends(Code::Error, usage(alloc, name.as_str(), parameters)?));
     }
-    let level = scopes.levels();
+    let frame = scopes.levels();
     scopes.push_frame()?;
-    match enter(alloc, scopes, level, parameters, words)? {
+    match enter(alloc, scopes, frame, parameters, words)? {
         None => {
-            levels.push(level)?;
+            levels.push(frame)?;
             Ok(Plan::Enters(procedure.body.copy()?))
         }
         Some(text) => {

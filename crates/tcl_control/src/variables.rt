@@ -37,27 +37,27 @@ pub fn variable_end(
     ensures { IfOk result (λ end. record { store = scopes.new; code = end.code; text = end.text }
         ≡ spec.variable_ending command levels.now words.now scopes.old) }
 {
-    let level = levels.here(scopes);
-    let answer = call_variable_command(alloc, scopes, level, command, words)?;
+    let frame = levels.here(scopes);
+    let answer = call_variable_command(alloc, scopes, frame, command, words)?;
     Ok(end_of(answer))
 }
 
-/// Links names of the frame at a level to those of the frame at another place, which must be an earlier one.
+/// Links names of a frame to those of the frame at another place, which must be an earlier one.
 fn linked(
     alloc: Global,
     scopes: &mut Scopes,
-    level: usize,
+    frame: usize,
     place: Option<usize>,
     word: &str,
     names: &[Text],
 ) -> Result<End, AllocError>
-    requires { level < length scopes.old }
+    requires { frame < length scopes.old }
     ensures { IfOk result (λ end. record { store = scopes.new; code = end.code; text = end.text }
-        ≡ spec.linked_ending word.now names.now level scopes.old place) }
+        ≡ spec.linked_ending word.now names.now frame scopes.old place) }
 {
     match place {
-        Some(place) if place < level => {
-            let answer = upvar_command(alloc, scopes, level, place, names)?;
+        Some(place) if place < frame => {
+            let answer = upvar_command(alloc, scopes, frame, place, names)?;
             Ok(end_of(answer))
         }
         _ => Ok(error_end(bad_level(alloc, word)?)),
@@ -74,12 +74,12 @@ fn upvar_at(
 ) -> Result<End, AllocError>
     ensures { IfOk result (λ end. record { store = scopes.new; code = end.code; text = end.text } ≡ spec.upvar_at levels.now word.now names.now scopes.old) }
 {
-    let level = levels.here(scopes);
+    let frame = levels.here(scopes);
     let place = match levels_left(alloc, levels.count(), word)? {
         Some(count) => Some(levels.place_at(scopes, count)),
         None => None,
     };
-    linked(alloc, scopes, level, place, word.as_str(), names)
+    linked(alloc, scopes, frame, place, word.as_str(), names)
 }
 
 fn upvar_misused(alloc: Global) -> Result<End, AllocError>

@@ -8,7 +8,7 @@ use Rattle.tcl_expr.specs.Faults.{too_long, no_memory}
 use Rattle.tcl_expr.specs.Trees.{Tree}
 use Rattle.tcl_expr.specs.Reading.{tree_of}
 use Rattle.tcl_expr.specs.Standing.{IsFaultOrMemory}
-use Rattle.tcl_words.specs.One.{One}
+use Rattle.tcl_text.specs.One.{One}
 use Rattle.tcl_words.specs.Grammar.{IsText}
 use Rattle.tcl_expr.specs.Grammar.{IsWholeExpr, IsTreeOf, IsExprFault, IsExprParse, IsExpression, OneTreeOrFault}
 use Rattle.tcl_expr.specs.Grammar.IsExprFault.{no_text, faulty_text}

@@ -2,7 +2,7 @@
 use Rattle.std.specs.Prelude.{ℕ, List, Result}
 use Rattle.tcl_words.proofs.Parses.{one_script_parse}
 use Rattle.tcl_words.specs.Grammar.{IsScriptParse}
-use Rattle.tcl_words.specs.One.{One}
+use Rattle.tcl_text.specs.One.{One}
 use Rattle.tcl_words.specs.declared.script.Command.{Command}
 use Rattle.tcl_text.specs.declared.fault.ParseFault.{ParseFault}
 

@@ -25,3 +25,4 @@ pub mod AsciiMarks
 pub mod TextForm
 pub mod ListString
 pub mod ItemsForm
+pub mod One

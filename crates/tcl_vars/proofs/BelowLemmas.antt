@@ -21,7 +21,7 @@ below-at level (f ∷ fs) name link h e = by (bytes_eq name f.0) e (λ r. below-
 
 -- what holds of all entries holds of those that a look-up finds
 pub LinksDescend-frames : (store : Store) → FramesDescend store → LinksDescend store
-LinksDescend-frames store down place link e = below-at place.level (frame_at store place.level) place.variable link (down place.level) e
+LinksDescend-frames store down place link e = below-at place.frame (frame_at store place.frame) place.variable link (down place.frame) e
 
 pub AllBelow-with_value : (level : ℕ) (frame : Frame) (name : List ℕ) (content : Content) → AllBelow level frame → IsBelow level content → AllBelow level (with_value frame name content)
 AllBelow-with_value level [] name content h below = (below, tt)

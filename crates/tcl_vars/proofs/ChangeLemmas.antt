@@ -111,22 +111,22 @@ pub ChangesHere-linkless : (store new : Store) (place : Place) (edit : Edit) (do
 ChangesHere-linkless store new place edit true linkless h = h
 ChangesHere-linkless store new place edit false linkless h = absurd (h.0 linkless)
 
-module _ (store : Store) (count : ℕ) (sound : IsSound store count) (place : Place) (within : place.level < length store) (edit : Edit) (new : Frame) where
-  sets : (value : List ℕ) → PutsText (frame_at store place.level) place value (4096 - count) 0 new → Sets store place value (Ok (set store place.level new))
+module _ (store : Store) (count : ℕ) (sound : IsSound store count) (place : Place) (within : place.frame < length store) (edit : Edit) (new : Frame) where
+  sets : (value : List ℕ) → PutsText (frame_at store place.frame) place value (4096 - count) 0 new → Sets store place value (Ok (set store place.frame new))
   sets value puts = record {
     linkless = puts.linkless;
-    given = ap (with_new_content store place) puts.given ∙ ap (λ f. within_variables Full (set store place.level f)) (sym puts.frame)
-        ∙ within_variables-ok Full (set store place.level new)
-        (let same : count + 0 ≡ variable_count (set store place.level new) = counted-set store count sound place within value 0 new puts in omega (arith, sound.limited));
+    given = ap (with_new_content store place) puts.given ∙ ap (λ f. within_variables Full (set store place.frame f)) (sym puts.frame)
+        ∙ within_variables-ok Full (set store place.frame new)
+        (let same : count + 0 ≡ variable_count (set store place.frame new) = counted-set store count sound place within value 0 new puts in omega (arith, sound.limited));
   }
 
   -- the store stays sound
-  pub IsSound-change : (done : Bool) → MatchBool done (ChangesText (frame_at store place.level) place edit new) ((link_of (value_at (frame_at store place.level) place.variable) ≢ None) × (new ≡ frame_at store place.level))
-      → IsSound (set store place.level new) count
-  IsSound-change true h = subst (IsSound (set store place.level new)) (add-zero count) (IsSound-set store count sound place within h.value 0 new (h.puts (4096 - count)))
-  IsSound-change false h = IsSound-same store count sound place.level new h.1
+  pub IsSound-change : (done : Bool) → MatchBool done (ChangesText (frame_at store place.frame) place edit new) ((link_of (value_at (frame_at store place.frame) place.variable) ≢ None) × (new ≡ frame_at store place.frame))
+      → IsSound (set store place.frame new) count
+  IsSound-change true h = subst (IsSound (set store place.frame new)) (add-zero count) (IsSound-set store count sound place within h.value 0 new (h.puts (4096 - count)))
+  IsSound-change false h = IsSound-same store count sound place.frame new h.1
 
-  pub AfterChange-store : (done : Bool) → MatchBool done (ChangesText (frame_at store place.level) place edit new) ((link_of (value_at (frame_at store place.level) place.variable) ≢ None) × (new ≡ frame_at store place.level))
-      → MatchBool done (ChangesHere store place edit (set store place.level new)) ((link_of (content_at store place) ≢ None) × (set store place.level new ≡ store))
+  pub AfterChange-store : (done : Bool) → MatchBool done (ChangesText (frame_at store place.frame) place edit new) ((link_of (value_at (frame_at store place.frame) place.variable) ≢ None) × (new ≡ frame_at store place.frame))
+      → MatchBool done (ChangesHere store place edit (set store place.frame new)) ((link_of (content_at store place) ≢ None) × (set store place.frame new ≡ store))
   AfterChange-store true h = record { value = h.value; changed = h.changed; sets = sets h.value (h.puts (4096 - count)) }
-  AfterChange-store false h = (h.0, ap (λ f. set store place.level f) h.1 ∙ set-get_or store place.level [])
+  AfterChange-store false h = (h.0, ap (λ f. set store place.frame f) h.1 ∙ set-get_or store place.frame [])

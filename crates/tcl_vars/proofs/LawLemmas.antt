@@ -39,7 +39,7 @@ module _ (store new : Store) where
   length-with_text_at None value e = absurd (cc)
   length-with_text_at (Some end) value e =
       let is = new_content-is store end (content_with (content_at store end) end.element value) new e in
-      ap length is.2 ∙ length-set store end.level _
+      ap length is.2 ∙ length-set store end.frame _
 
   pub length-with_variable : (level : ℕ) (name value : List ℕ) → with_variable store level name value ≡ Ok new → length new ≡ length store
   unfolding with_variable
@@ -50,7 +50,7 @@ module _ (store new : Store) where
   length-with_element level name index value e = length-with_text_at (element_place_in store level name index) value e
 
   length-with_rest : (place : Place) (r : Result (Option Content) UnsetFault) → with_rest store place r ≡ Ok new → length new ≡ length store
-  length-with_rest place (Ok rest) e = let is : new ≡ set store place.level (frame_with_rest (frame_at store place.level) place.variable rest) = cc in ap length is ∙ length-set store place.level _
+  length-with_rest place (Ok rest) e = let is : new ≡ set store place.frame (frame_with_rest (frame_at store place.frame) place.variable rest) = cc in ap length is ∙ length-set store place.frame _
   length-with_rest place (Err fault) e = absurd (cc)
 
   length-without_text_at : (end : Option Place) → without_text_at store end ≡ Ok new → length new ≡ length store
@@ -69,7 +69,7 @@ module _ (store new : Store) where
   length-with_array_of place None e = absurd (cc)
   length-with_array_of place (Some true) e = let is : new ≡ store = cc in ap length is
   length-with_array_of place (Some false) e =
-      ap length (within_variables-is sets.Full (with_content store place (Array [])) new e) ∙ length-set store place.level _
+      ap length (within_variables-is sets.Full (with_content store place (Array [])) new e) ∙ length-set store place.frame _
 
   length-with_array_at : (end : Option Place) → with_array_at store end ≡ Ok new → length new ≡ length store
   length-with_array_at None e = absurd (cc)
@@ -129,49 +129,49 @@ led_by-same place (Some link) f g h = by (indexed (place_of link.0 link.1) place
     by None = refl
     by (Some next) = h next
 
-module _ (store : Store) (end : Place) (within : end.level < length store) (content : Content) where
+module _ (store : Store) (end : Place) (within : end.frame < length store) (content : Content) where
   -- the content of a variable after another, or this one, is given one
   content_at-with_content : (place : Place) → content_at (with_content store end content) place
-      ≡ (if nat_eq place.level end.level then cond (bytes_eq place.variable end.variable) (Some content) (content_at store place) else content_at store place)
-  content_at-with_content place = by (eqb_tells place.level end.level)
+      ≡ (if nat_eq place.frame end.frame then cond (bytes_eq place.variable end.variable) (Some content) (content_at store place) else content_at store place)
+  content_at-with_content place = by (eqb_tells place.frame end.frame)
     where
-      by : ((nat_eq place.level end.level ≡ true) × (place.level ≡ end.level)) ⊎ ((nat_eq place.level end.level ≡ false) × (place.level ≢ end.level)) → content_at (with_content store end content) place
-          ≡ (if nat_eq place.level end.level then cond (bytes_eq place.variable end.variable) (Some content) (content_at store place) else content_at store place)
+      by : ((nat_eq place.frame end.frame ≡ true) × (place.frame ≡ end.frame)) ⊎ ((nat_eq place.frame end.frame ≡ false) × (place.frame ≢ end.frame)) → content_at (with_content store end content) place
+          ≡ (if nat_eq place.frame end.frame then cond (bytes_eq place.variable end.variable) (Some content) (content_at store place) else content_at store place)
       by (inl here) =
-          ap (λ f. value_at f place.variable) (get_or-set_at store end.level place.level (with_value (frame_at store end.level) end.variable content) [] here.1 within)
-          ∙ value_at-with_value end.variable content (frame_at store end.level) place.variable
+          ap (λ f. value_at f place.variable) (get_or-set_at store end.frame place.frame (with_value (frame_at store end.frame) end.variable content) [] here.1 within)
+          ∙ value_at-with_value end.variable content (frame_at store end.frame) place.variable
           ∙ ap (λ l. cond (bytes_eq place.variable end.variable) (Some content) (value_at (frame_at store l) place.variable)) (sym here.1)
           ∙ ap (λ b. if b then cond (bytes_eq place.variable end.variable) (Some content) (content_at store place) else content_at store place) (sym here.0)
       by (inr there) =
-          ap (λ f. value_at f place.variable) (get_or-set_other store end.level place.level (with_value (frame_at store end.level) end.variable content) [] there.1)
+          ap (λ f. value_at f place.variable) (get_or-set_other store end.frame place.frame (with_value (frame_at store end.frame) end.variable content) [] there.1)
           ∙ ap (λ b. if b then cond (bytes_eq place.variable end.variable) (Some content) (content_at store place) else content_at store place) (sym there.0)
 
   pub content_at-there : content_at (with_content store end content) end ≡ Some content
   content_at-there =
       content_at-with_content end
-      ∙ ap (λ b. if b then cond (bytes_eq end.variable end.variable) (Some content) (content_at store end) else content_at store end) (by (eqb_tells end.level end.level))
+      ∙ ap (λ b. if b then cond (bytes_eq end.variable end.variable) (Some content) (content_at store end) else content_at store end) (by (eqb_tells end.frame end.frame))
       ∙ ap (λ b. cond b (Some content) (content_at store end)) (bytes_eq-refl end.variable)
     where
-      by : ((nat_eq end.level end.level ≡ true) × (end.level ≡ end.level)) ⊎ ((nat_eq end.level end.level ≡ false) × (end.level ≢ end.level)) → nat_eq end.level end.level ≡ true
+      by : ((nat_eq end.frame end.frame ≡ true) × (end.frame ≡ end.frame)) ⊎ ((nat_eq end.frame end.frame ≡ false) × (end.frame ≢ end.frame)) → nat_eq end.frame end.frame ≡ true
       by (inl here) = here.0
       by (inr there) = absurd (there.1 refl)
 
   module _ (was : link_of (content_at store end) ≡ None) (now : link_of (Some content) ≡ None) where
     -- the links are as before
     link_of-with_content : (place : Place) → link_of (content_at (with_content store end content) place) ≡ link_of (content_at store place)
-    link_of-with_content place = ap link_of (content_at-with_content place) ∙ by (eqb_tells place.level end.level)
+    link_of-with_content place = ap link_of (content_at-with_content place) ∙ by (eqb_tells place.frame end.frame)
       where
-        same : place.level ≡ end.level → bytes_eq place.variable end.variable ≡ true → link_of (content_at store place) ≡ None
+        same : place.frame ≡ end.frame → bytes_eq place.variable end.variable ≡ true → link_of (content_at store place) ≡ None
         same l v =
             ap (λ m. link_of (value_at (frame_at store m) place.variable)) l
-            ∙ ap (λ n. link_of (value_at (frame_at store end.level) n)) ((bytes_decides place.variable end.variable).0 v) ∙ was
+            ∙ ap (λ n. link_of (value_at (frame_at store end.frame) n)) ((bytes_decides place.variable end.variable).0 v) ∙ was
 
         pick : (b : Bool) → (b ≡ true → link_of (content_at store place) ≡ None) → link_of (cond b (Some content) (content_at store place)) ≡ link_of (content_at store place)
         pick true h = now ∙ sym (h refl)
         pick false h = refl
 
-        by : ((nat_eq place.level end.level ≡ true) × (place.level ≡ end.level)) ⊎ ((nat_eq place.level end.level ≡ false) × (place.level ≢ end.level))
-            → link_of (if nat_eq place.level end.level then cond (bytes_eq place.variable end.variable) (Some content) (content_at store place) else content_at store place)
+        by : ((nat_eq place.frame end.frame ≡ true) × (place.frame ≡ end.frame)) ⊎ ((nat_eq place.frame end.frame ≡ false) × (place.frame ≢ end.frame))
+            → link_of (if nat_eq place.frame end.frame then cond (bytes_eq place.variable end.variable) (Some content) (content_at store place) else content_at store place)
             ≡ link_of (content_at store place)
         by (inl here) =
             ap (λ b. link_of (if b then cond (bytes_eq place.variable end.variable) (Some content) (content_at store place) else content_at store place)) here.0
@@ -188,23 +188,23 @@ module _ (store : Store) (end : Place) (within : end.level < length store) (cont
         ∙ led_by-same place (link_of (content_at store place)) (λ next. led (with_content store end content) n next) (λ next. led store n next) (led-with_content n)
 
 -- a place leads no further from the global frame than it is
-pub led-level : (store : Store) → LinksDescend store → (n : ℕ) (place end : Place) → led store n place ≡ Some end → end.level ≤ place.level
+pub led-level : (store : Store) → LinksDescend store → (n : ℕ) (place end : Place) → led store n place ≡ Some end → end.frame ≤ place.frame
 unfolding led
-led-level store down zero place end e = let same : place ≡ end = cc in omega (arith, ap (λ p. p.level) same)
+led-level store down zero place end e = let same : place ≡ end = cc in omega (arith, ap (λ p. p.frame) same)
 led-level store down (suc n) place end e = by (link_of (content_at store place)) refl e (λ next h. led-level store down n next end h)
   where
     next_of : (link : ℕ × List ℕ) → link_of (content_at store place) ≡ Some link → (o : Option Place) → indexed (place_of link.0 link.1) place.element ≡ o
-        → option_and_then (λ next. led store n next) o ≡ Some end → ((next : Place) → led store n next ≡ Some end → end.level ≤ next.level) → end.level ≤ place.level
+        → option_and_then (λ next. led store n next) o ≡ Some end → ((next : Place) → led store n next ≡ Some end → end.frame ≤ next.frame) → end.frame ≤ place.frame
     next_of link held None is h ih = absurd (cc)
     next_of link held (Some next) is h ih = omega (arith, ih next h, next_below store down place next link held is)
 
     by : (l : Option (ℕ × List ℕ)) → link_of (content_at store place) ≡ l → led_by place l (λ next. led store n next) ≡ Some end
-        → ((next : Place) → led store n next ≡ Some end → end.level ≤ next.level) → end.level ≤ place.level
-    by None held h ih = let same : place ≡ end = cc in omega (arith, ap (λ p. p.level) same)
+        → ((next : Place) → led store n next ≡ Some end → end.frame ≤ next.frame) → end.frame ≤ place.frame
+    by None held h ih = let same : place ≡ end = cc in omega (arith, ap (λ p. p.frame) same)
     by (Some link) held h ih = next_of link held (indexed (place_of link.0 link.1) place.element) refl h ih
 
 -- a text that is set is read
-pub text_at-with_text_at : (store : Store) → LinksDescend store → (place : Place) → place.level < length store → (value : List ℕ) (new : Store)
+pub text_at-with_text_at : (store : Store) → LinksDescend store → (place : Place) → place.frame < length store → (value : List ℕ) (new : Store)
     → with_text_at store (end_of store place) value ≡ Ok new → text_at new (end_of new place) ≡ Ok value
 text_at-with_text_at store down place within value new e = by (end_of store place) refl e
   where
@@ -212,10 +212,10 @@ text_at-with_text_at store down place within value new e = by (end_of store plac
     by None leads h = absurd (cc)
     by (Some end) leads h =
         let is = new_content-is store end (content_with (content_at store end) end.element value) new h in
-        let low : end.level < length store = omega (arith, led-level store down place.level place end leads) in
+        let low : end.frame < length store = omega (arith, led-level store down place.frame place end leads) in
         let linkless = content_with-linkless (content_at store end) end.element value is.0 is.1 in
         ap (λ s. text_at s (end_of s place)) is.2
-        ∙ ap (text_at (with_content store end is.0)) (led-with_content store end low is.0 (led-end store down place.level place end (le_refl _) leads) linkless place.level place ∙ leads)
+        ∙ ap (text_at (with_content store end is.0)) (led-with_content store end low is.0 (led-end store down place.frame place end (le_refl _) leads) linkless place.frame place ∙ leads)
         ∙ ap (λ c. text_of c end.element) (content_at-there store end low is.0)
         ∙ text_of-content_with (content_at store end) end.element value is.0 is.1
 
@@ -231,45 +231,45 @@ led-same old new same (suc n) place =
 
 pub is_there_at-IsGone : (old new : Store) (place end : Place) → end_of old place ≡ Some end → IsGone old new end → is_there_at new (end_of new place) ≡ false
 is_there_at-IsGone old new place end leads gone =
-    ap (is_there_at new) (led-same old new gone.links place.level place ∙ leads) ∙ gone.gone
+    ap (is_there_at new) (led-same old new gone.links place.frame place ∙ leads) ∙ gone.gone
 
 -- the links of a frame in which one name, which is no link before and after, has changed
 SameElsewhere : Frame → List ℕ → Frame → Type 0
 SameElsewhere old name new = (other : List ℕ) → bytes_eq other name ≡ false → value_at new other ≡ value_at old other
 
 -- a store in which the text of a place is unset
-pub IsGone-set : (store : Store) (place : Place) → place.level < length store → (removed : ℕ) (new : Frame) → UnsetsText (frame_at store place.level) place removed new
-    → IsGone store (set store place.level new) place
+pub IsGone-set : (store : Store) (place : Place) → place.frame < length store → (removed : ℕ) (new : Frame) → UnsetsText (frame_at store place.frame) place removed new
+    → IsGone store (set store place.frame new) place
 unfolding SameElsewhere
 IsGone-set store place within removed new unsets = record {
-  gone = ap (λ f. is_there (value_at f place.variable) place.element) (get_or-set_at store place.level place.level new [] refl within) ∙ unsets.gone;
+  gone = ap (λ f. is_there (value_at f place.variable) place.element) (get_or-set_at store place.frame place.frame new [] refl within) ∙ unsets.gone;
   links = links;
 }
   where
-    elsewhere : SameElsewhere (frame_at store place.level) place.variable new
+    elsewhere : SameElsewhere (frame_at store place.frame) place.variable new
     elsewhere other differs =
         ap (λ f. value_at f other) unsets.frame ∙ by unsets.rest
       where
-        by : (rest : Option Content) → value_at (frame_with_rest (frame_at store place.level) place.variable rest) other ≡ value_at (frame_at store place.level) other
-        by None = value_at-without-other (frame_at store place.level) place.variable other differs
-        by (Some content) = value_at-with_value place.variable content (frame_at store place.level) other ∙ ap (λ b. cond b (Some content) (value_at (frame_at store place.level) other)) differs
+        by : (rest : Option Content) → value_at (frame_with_rest (frame_at store place.frame) place.variable rest) other ≡ value_at (frame_at store place.frame) other
+        by None = value_at-without-other (frame_at store place.frame) place.variable other differs
+        by (Some content) = value_at-with_value place.variable content (frame_at store place.frame) other ∙ ap (λ b. cond b (Some content) (value_at (frame_at store place.frame) other)) differs
 
-    links : (other : Place) → link_of (content_at (set store place.level new) other) ≡ link_of (content_at store other)
-    links other = level_by (eqb_tells other.level place.level)
+    links : (other : Place) → link_of (content_at (set store place.frame new) other) ≡ link_of (content_at store other)
+    links other = level_by (eqb_tells other.frame place.frame)
       where
-        name_by : (b : Bool) → bytes_eq other.variable place.variable ≡ b → link_of (value_at new other.variable) ≡ link_of (value_at (frame_at store place.level) other.variable)
+        name_by : (b : Bool) → bytes_eq other.variable place.variable ≡ b → link_of (value_at new other.variable) ≡ link_of (value_at (frame_at store place.frame) other.variable)
         name_by true is =
             let same : other.variable ≡ place.variable = (bytes_decides other.variable place.variable).0 is in
-            ap (λ n. link_of (value_at new n)) same ∙ unsets.linkless_then ∙ sym (ap (λ n. link_of (value_at (frame_at store place.level) n)) same ∙ unsets.linkless)
+            ap (λ n. link_of (value_at new n)) same ∙ unsets.linkless_then ∙ sym (ap (λ n. link_of (value_at (frame_at store place.frame) n)) same ∙ unsets.linkless)
         name_by false is = ap link_of (elsewhere other.variable is)
 
-        level_by : ((nat_eq other.level place.level ≡ true) × (other.level ≡ place.level)) ⊎ ((nat_eq other.level place.level ≡ false) × (other.level ≢ place.level))
-            → link_of (content_at (set store place.level new) other) ≡ link_of (content_at store other)
+        level_by : ((nat_eq other.frame place.frame ≡ true) × (other.frame ≡ place.frame)) ⊎ ((nat_eq other.frame place.frame ≡ false) × (other.frame ≢ place.frame))
+            → link_of (content_at (set store place.frame new) other) ≡ link_of (content_at store other)
         level_by (inl here) =
-            ap (λ f. link_of (value_at f other.variable)) (get_or-set_at store place.level other.level new [] here.1 within)
+            ap (λ f. link_of (value_at f other.variable)) (get_or-set_at store place.frame other.frame new [] here.1 within)
             ∙ name_by (bytes_eq other.variable place.variable) refl
             ∙ ap (λ l. link_of (value_at (frame_at store l) other.variable)) (sym here.1)
-        level_by (inr there) = ap (λ f. link_of (value_at f other.variable)) (get_or-set_other store place.level other.level new [] there.1)
+        level_by (inr there) = ap (λ f. link_of (value_at f other.variable)) (get_or-set_other store place.frame other.frame new [] there.1)
 
 -- where links end the text is gone
 pub gone_at_end : (store new : Store) (place : Place) (done : Bool) → link_of (content_at store place) ≡ None

@@ -26,13 +26,13 @@ module _ (store : Store) (down : LinksDescend store) (level : ℕ) (within : lev
   linked = with_content store (variable_place level name) (Link to_level to_name)
 
   -- earlier frames are as before
-  content_at-below : (place : Place) → place.level < level → content_at linked place ≡ content_at store place
+  content_at-below : (place : Place) → place.frame < level → content_at linked place ≡ content_at store place
   unfolding linked
   content_at-below place low =
-      let apart : place.level ≢ level = omega arith in
-      ap (λ f. value_at f place.variable) (get_or-set_other store level place.level (with_value (frame_at store level) name (Link to_level to_name)) [] apart)
+      let apart : place.frame ≢ level = omega arith in
+      ap (λ f. value_at f place.variable) (get_or-set_other store level place.frame (with_value (frame_at store level) name (Link to_level to_name)) [] apart)
 
-  led-below : (n : ℕ) (place : Place) → place.level < level → led linked n place ≡ led store n place
+  led-below : (n : ℕ) (place : Place) → place.frame < level → led linked n place ≡ led store n place
   unfolding led
   led-below zero place low = refl
   led-below (suc n) place low =
@@ -40,12 +40,12 @@ module _ (store : Store) (down : LinksDescend store) (level : ℕ) (within : lev
       ∙ by (link_of (content_at store place)) refl (λ next h. led-below n next h)
     where
       next_of : (link : ℕ × List ℕ) → link_of (content_at store place) ≡ Some link → (o : Option Place) → indexed (place_of link.0 link.1) place.element ≡ o
-          → ((next : Place) → next.level < level → led linked n next ≡ led store n next)
+          → ((next : Place) → next.frame < level → led linked n next ≡ led store n next)
           → option_and_then (λ next. led linked n next) o ≡ option_and_then (λ next. led store n next) o
       next_of link held None is ih = refl
-      next_of link held (Some next) is ih = ih next (let lower : next.level < place.level = next_below store down place next link held is in omega arith)
+      next_of link held (Some next) is ih = ih next (let lower : next.frame < place.frame = next_below store down place next link held is in omega arith)
 
-      by : (l : Option (ℕ × List ℕ)) → link_of (content_at store place) ≡ l → ((next : Place) → next.level < level → led linked n next ≡ led store n next)
+      by : (l : Option (ℕ × List ℕ)) → link_of (content_at store place) ≡ l → ((next : Place) → next.frame < level → led linked n next ≡ led store n next)
           → led_by place l (λ next. led linked n next) ≡ led_by place l (λ next. led store n next)
       by None held ih = refl
       by (Some link) held ih = next_of link held (indexed (place_of link.0 link.1) place.element) refl ih
@@ -55,7 +55,7 @@ module _ (store : Store) (down : LinksDescend store) (level : ℕ) (within : lev
   unfolding led linked
   end_of-linked = by level refl
     where
-      target : (place_of to_level to_name).level ≤ to_level
+      target : (place_of to_level to_name).frame ≤ to_level
       target = place_of-level to_level to_name
 
       by : (n : ℕ) → level ≡ n → led linked n (variable_place level name) ≡ place_in store to_level to_name
@@ -63,7 +63,7 @@ module _ (store : Store) (down : LinksDescend store) (level : ℕ) (within : lev
       by (suc n) e =
           ap (λ c. led_by (variable_place level name) (link_of c) (λ next. led linked n next)) (content_at-there store (variable_place level name) within (Link to_level to_name))
           ∙ led-below n (place_of to_level to_name) (omega (arith, target))
-          ∙ led_enough store down n (place_of to_level to_name).level (place_of to_level to_name) (omega (arith, target)) (omega arith)
+          ∙ led_enough store down n (place_of to_level to_name).frame (place_of to_level to_name) (omega (arith, target)) (omega arith)
 
   text_at-linked : text_at linked (place_in store to_level to_name) ≡ text_at store (place_in store to_level to_name)
   text_at-linked = by (place_in store to_level to_name) refl
@@ -72,7 +72,7 @@ module _ (store : Store) (down : LinksDescend store) (level : ℕ) (within : lev
       by None e = refl
       by (Some end) e =
           ap (λ c. text_of c end.element)
-          (content_at-below end (omega (arith, led-level store down (place_of to_level to_name).level (place_of to_level to_name) end e, place_of-level to_level to_name)))
+          (content_at-below end (omega (arith, led-level store down (place_of to_level to_name).frame (place_of to_level to_name) end e, place_of-level to_level to_name)))
 
   pub variable_in-with_link : (new : Store) → with_link store level name to_level to_name ≡ Ok new → variable_in new level name ≡ variable_in store to_level to_name
   unfolding with_link variable_in linked

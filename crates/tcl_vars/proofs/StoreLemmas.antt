@@ -34,23 +34,23 @@ within_variables-ok full store low = ap (λ b. if b then Ok store else Err full)
 pub within_variables-full : {F : Type 0} (full : F) (store : Store) → 4096 < variable_count store → within_variables full store ≡ Err full
 within_variables-full full store high = ap (λ b. if b then Ok store else Err full) (false_from_ne_true (nat_le (variable_count store) 4096) (λ yes. absurd (grind (arith, nat_tests))))
 
-module _ (store : Store) (count : ℕ) (sound : IsSound store count) (place : Place) (within : place.level < length store) (value : List ℕ) where
-  module _ (added : ℕ) (new : Frame) (puts : PutsText (frame_at store place.level) place value (4096 - count) added new) where
-    pub counted-set : count + added ≡ variable_count (set store place.level new)
-    counted-set = omega (arith, variable_count-set store place.level within new, puts.counted, sound.counted)
+module _ (store : Store) (count : ℕ) (sound : IsSound store count) (place : Place) (within : place.frame < length store) (value : List ℕ) where
+  module _ (added : ℕ) (new : Frame) (puts : PutsText (frame_at store place.frame) place value (4096 - count) added new) where
+    pub counted-set : count + added ≡ variable_count (set store place.frame new)
+    counted-set = omega (arith, variable_count-set store place.frame within new, puts.counted, sound.counted)
 
-    below : AllBelow place.level new
-    below = subst (AllBelow place.level) (sym puts.frame)
-        (AllBelow-with_value place.level (frame_at store place.level) place.variable puts.content (sound.descending place.level)
-        (content_with-below place.level _ place.element value puts.content puts.given))
+    below : AllBelow place.frame new
+    below = subst (AllBelow place.frame) (sym puts.frame)
+        (AllBelow-with_value place.frame (frame_at store place.frame) place.variable puts.content (sound.descending place.frame)
+        (content_with-below place.frame _ place.element value puts.content puts.given))
 
     -- the store stays sound
-    pub IsSound-set : IsSound (set store place.level new) (count + added)
+    pub IsSound-set : IsSound (set store place.frame new) (count + added)
     IsSound-set = record {
-      rooted = omega (arith, sound.rooted, length-set store place.level new);
+      rooted = omega (arith, sound.rooted, length-set store place.frame new);
       counted = counted-set;
       limited = omega (arith, puts.fits, sound.limited);
-      descending = FramesDescend-set store place.level within new sound.descending below;
+      descending = FramesDescend-set store place.frame within new sound.descending below;
     }
 
 module _ (store : Store) (place : Place) (value : List ℕ) where

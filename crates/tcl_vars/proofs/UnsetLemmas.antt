@@ -78,28 +78,28 @@ content_without-below level (Some (Array elements)) (Some index) (Link to name) 
     by false h = absurd (cc)
 content_without-below level (Some (Link from there)) element (Link to name) e = absurd (cc)
 
-module _ (store : Store) (count : ℕ) (sound : IsSound store count) (place : Place) (within : place.level < length store) where
-  module _ (removed : ℕ) (new : Frame) (unsets : UnsetsText (frame_at store place.level) place removed new) where
-    below : AllBelow place.level new
-    below = subst (AllBelow place.level) (sym unsets.frame) (by unsets.rest unsets.given)
+module _ (store : Store) (count : ℕ) (sound : IsSound store count) (place : Place) (within : place.frame < length store) where
+  module _ (removed : ℕ) (new : Frame) (unsets : UnsetsText (frame_at store place.frame) place removed new) where
+    below : AllBelow place.frame new
+    below = subst (AllBelow place.frame) (sym unsets.frame) (by unsets.rest unsets.given)
       where
-        by : (rest : Option Content) → content_without (value_at (frame_at store place.level) place.variable) place.element ≡ Ok rest
-            → AllBelow place.level (frame_with_rest (frame_at store place.level) place.variable rest)
-        by None e = AllBelow-without place.level (frame_at store place.level) place.variable (sound.descending place.level)
+        by : (rest : Option Content) → content_without (value_at (frame_at store place.frame) place.variable) place.element ≡ Ok rest
+            → AllBelow place.frame (frame_with_rest (frame_at store place.frame) place.variable rest)
+        by None e = AllBelow-without place.frame (frame_at store place.frame) place.variable (sound.descending place.frame)
         by (Some content) e =
-            AllBelow-with_value place.level (frame_at store place.level) place.variable content (sound.descending place.level)
-            (content_without-below place.level _ place.element content e)
+            AllBelow-with_value place.frame (frame_at store place.frame) place.variable content (sound.descending place.frame)
+            (content_without-below place.frame _ place.element content e)
 
-    counted-set : variable_count (set store place.level new) + removed ≡ count
-    counted-set = omega (arith, variable_count-set store place.level within new, unsets.counted, sound.counted)
+    counted-set : variable_count (set store place.frame new) + removed ≡ count
+    counted-set = omega (arith, variable_count-set store place.frame within new, unsets.counted, sound.counted)
 
     -- the store stays sound
-    pub IsSound-unset : IsSound (set store place.level new) (count - removed)
+    pub IsSound-unset : IsSound (set store place.frame new) (count - removed)
     IsSound-unset = record {
-      rooted = omega (arith, sound.rooted, length-set store place.level new);
+      rooted = omega (arith, sound.rooted, length-set store place.frame new);
       counted = omega (arith, counted-set);
       limited = omega (arith, sound.limited);
-      descending = FramesDescend-set store place.level within new sound.descending below;
+      descending = FramesDescend-set store place.frame within new sound.descending below;
     }
 
 module _ (store : Store) (place : Place) (gives : Result Store UnsetFault) where

@@ -25,8 +25,8 @@ edited_by edit (Ok text) = told_by (edited edit text)
 edited_by edit (Err fault) = Err (Unread fault)
 
 -- the text of the variable or element that a name means is changed
-pub record Changes (old : Store) (level : ℕ) (name : List ℕ) (edit : Edit) (new : Store) : Type 0 where
+pub record Changes (old : Store) (frame : ℕ) (name : List ℕ) (edit : Edit) (new : Store) : Type 0 where
   pub value : List ℕ
-  pub changed : edited_by edit (variable_in old level name) ≡ Ok value
-  pub set : with_variable old level name value ≡ Ok new
-  pub read : variable_in new level name ≡ Ok value
+  pub changed : edited_by edit (variable_in old frame name) ≡ Ok value
+  pub set : with_variable old frame name value ≡ Ok new
+  pub read : variable_in new frame name ≡ Ok value

@@ -14,21 +14,21 @@ around_first c text =
 abbrev pub element_of : List ℕ → Option (List ℕ × List ℕ)
 element_of name = if ends_with nat_eq name (codes ")") then around_first open_paren (take (length name - 1) name) else None
 
--- a variable of the frame at a level, or an element of it where an index is given
+-- a variable of a frame, or an element of it where an index is given
 pub record Place : Type 0 where
-  pub level : ℕ
+  pub frame : ℕ
   pub variable : List ℕ
   pub element : Option (List ℕ)
 
 -- the place of these parts of a name, or of the whole name where it has none
 abbrev pub place_of_parts : ℕ → List ℕ → Option (List ℕ × List ℕ) → Place
-place_of_parts level name None = record { level = level; variable = name; element = None }
-place_of_parts level name (Some parts) = record { level = level; variable = parts.0; element = Some parts.1 }
+place_of_parts frame name None = record { frame = frame; variable = name; element = None }
+place_of_parts frame name (Some parts) = record { frame = frame; variable = parts.0; element = Some parts.1 }
 
 -- where a name without a leading `::` points in a frame
 abbrev pub place_in_frame : ℕ → List ℕ → Place
-place_in_frame level name = place_of_parts level name (element_of name)
+place_in_frame frame name = place_of_parts frame name (element_of name)
 
--- where a name points that is used in the frame at a level: a leading `::` means the global frame
+-- where a name points that is used in a frame: a leading `::` means the global frame
 abbrev pub place_of : ℕ → List ℕ → Place
-place_of level name = if starts_with nat_eq name (codes "::") then place_in_frame 0 (drop 2 name) else place_in_frame level name
+place_of frame name = if starts_with nat_eq name (codes "::") then place_in_frame 0 (drop 2 name) else place_in_frame frame name

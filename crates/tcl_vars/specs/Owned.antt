@@ -4,4 +4,4 @@ use Rattle.tcl_vars.specs.declared.name.OwnPlace.{OwnPlace}
 use Rattle.tcl_vars.specs.Name.{Place}
 
 abbrev pub owned : OwnPlace → Place
-owned place = record { level = place.level; variable = string_bytes place.variable; element = option_map (λ index. string_bytes index) place.element }
+owned place = record { frame = place.frame; variable = string_bytes place.variable; element = option_map (λ index. string_bytes index) place.element }

@@ -4,4 +4,4 @@ use Rattle.tcl_vars.specs.declared.name.Place.{Place as BorrowedPlace}
 use Rattle.tcl_vars.specs.Name.{Place}
 
 abbrev pub shown : BorrowedPlace → Place
-shown place = record { level = place.level; variable = place.variable.now; element = option_copied place.element }
+shown place = record { frame = place.frame; variable = place.variable.now; element = option_copied place.element }

@@ -23,17 +23,17 @@ Frame = Table Content
 abbrev pub Store : Type 0
 Store = List Frame
 
--- the frame at a level
+-- a frame
 abbrev pub frame_at : Store → ℕ → Frame
-frame_at store level = slice_index_or store level []
+frame_at store frame = slice_index_or store frame []
 
 -- what the variable of a place stands for
 abbrev pub content_at : Store → Place → Option Content
-content_at store place = value_at (frame_at store place.level) place.variable
+content_at store place = value_at (frame_at store place.frame) place.variable
 
 -- the store in which the variable of a place stands for this content
 abbrev pub with_content : Store → Place → Content → Store
-with_content store place content = slice_set store place.level (with_value (frame_at store place.level) place.variable content)
+with_content store place content = slice_set store place.frame (with_value (frame_at store place.frame) place.variable content)
 
 -- Links
 
@@ -42,12 +42,12 @@ abbrev pub link_of : Option Content → Option (ℕ × List ℕ)
 link_of None = None
 link_of (Some (Scalar text)) = None
 link_of (Some (Array elements)) = None
-link_of (Some (Link level name)) = Some (level, name)
+link_of (Some (Link frame name)) = Some (frame, name)
 
 -- an element of a place, or the place itself; an element has no elements
 abbrev pub indexed : Place → Option (List ℕ) → Option Place
 indexed place None = Some place
-indexed place (Some index) = if is_some place.element then None else Some (record { level = place.level; variable = place.variable; element = Some index })
+indexed place (Some index) = if is_some place.element then None else Some (record { frame = place.frame; variable = place.variable; element = Some index })
 
 -- where a place leads whose variable is this link, if any, given where the place leads that the link names
 abbrev pub led_by : Place → Option (ℕ × List ℕ) → (Place → Option Place) → Option Place
@@ -61,15 +61,15 @@ led store (suc links) place = led_by place (link_of (content_at store place)) (�
 
 -- where a place leads. A link leads to an earlier frame, so there are at most as many in a row as there are frames before
 abbrev pub end_of : Store → Place → Option Place
-end_of store place = led store place.level place
+end_of store place = led store place.frame place
 
--- where a name leads that is used in the frame at a level
+-- where a name leads that is used in a frame
 abbrev pub place_in : Store → ℕ → List ℕ → Option Place
-place_in store level name = end_of store (place_of level name)
+place_in store frame name = end_of store (place_of frame name)
 
 -- where the element leads that an index gives of the array of a name
 abbrev pub element_place_in : Store → ℕ → List ℕ → List ℕ → Option Place
-element_place_in store level name index = option_and_then (end_of store) (indexed (place_of level name) (Some index))
+element_place_in store frame name index = option_and_then (end_of store) (indexed (place_of frame name) (Some index))
 
 -- Reading
 
@@ -80,28 +80,28 @@ text_of (Some (Scalar text)) None = Ok text
 text_of (Some (Scalar text)) (Some index) = Err reads.NotArray
 text_of (Some (Array elements)) None = Err reads.IsArray
 text_of (Some (Array elements)) (Some index) = ok_or (value_at elements index) reads.NoElement
-text_of (Some (Link level name)) element = Err reads.NoVariable
+text_of (Some (Link frame name)) element = Err reads.NoVariable
 
 abbrev pub text_at : Store → Option Place → Result (List ℕ) ReadFault
 text_at store None = Err reads.NotArray
 text_at store (Some place) = text_of (content_at store place) place.element
 
--- the value of the variable or element that a name means in the frame at a level
+-- the value of the variable or element that a name means in a frame
 unfoldable pub variable_in : Store → ℕ → List ℕ → Result (List ℕ) ReadFault
-variable_in store level name = text_at store (place_in store level name)
+variable_in store frame name = text_at store (place_in store frame name)
 
 -- the integer that a text is which was read, if it is one
 abbrev pub number_read : Result (List ℕ) ReadFault → Option ℤ
 number_read (Ok text) = integer_of text
 number_read (Err fault) = None
 
--- the integer that the variable or element is that a name means in the frame at a level, if it is one
+-- the integer that the variable or element is that a name means in a frame, if it is one
 abbrev pub number_in : Store → ℕ → List ℕ → Option ℤ
-number_in store level name = number_read (variable_in store level name)
+number_in store frame name = number_read (variable_in store frame name)
 
 -- the value of the element that an index gives of the array that a name means
 unfoldable pub element_in : Store → ℕ → List ℕ → List ℕ → Result (List ℕ) ReadFault
-element_in store level name index = text_at store (element_place_in store level name index)
+element_in store frame name index = text_at store (element_place_in store frame name index)
 
 -- whether there is a content, or its element
 abbrev pub is_there : Option Content → Option (List ℕ) → Bool
@@ -110,24 +110,24 @@ is_there (Some (Scalar text)) None = true
 is_there (Some (Scalar text)) (Some index) = false
 is_there (Some (Array elements)) None = true
 is_there (Some (Array elements)) (Some index) = is_some (value_at elements index)
-is_there (Some (Link level name)) element = false
+is_there (Some (Link frame name)) element = false
 
 abbrev pub is_there_at : Store → Option Place → Bool
 is_there_at store None = false
 is_there_at store (Some place) = is_there (content_at store place) place.element
 
--- whether there is the variable or element that a name means in the frame at a level
+-- whether there is the variable or element that a name means in a frame
 unfoldable pub has_variable : Store → ℕ → List ℕ → Bool
-has_variable store level name = is_there_at store (place_in store level name)
+has_variable store frame name = is_there_at store (place_in store frame name)
 
 -- whether a place is that of an element; it is none of a variable either where it leads nowhere
 abbrev pub is_element_at : Option Place → Bool
 is_element_at None = true
 is_element_at (Some place) = is_some place.element
 
--- whether a name means an element in the frame at a level, and so no variable
+-- whether a name means an element in a frame, and so no variable
 unfoldable pub is_element_in : Store → ℕ → List ℕ → Bool
-is_element_in store level name = is_element_at (place_in store level name)
+is_element_in store frame name = is_element_at (place_in store frame name)
 
 -- the elements of a content that is an array
 abbrev pub elements_of : Option Content → Option (List ℕ) → Option (Table (List ℕ))
@@ -135,15 +135,15 @@ elements_of None element = None
 elements_of (Some (Scalar text)) element = None
 elements_of (Some (Array elements)) None = Some elements
 elements_of (Some (Array elements)) (Some index) = None
-elements_of (Some (Link level name)) element = None
+elements_of (Some (Link frame name)) element = None
 
 abbrev pub elements_at : Store → Option Place → Option (Table (List ℕ))
 elements_at store None = None
 elements_at store (Some place) = elements_of (content_at store place) place.element
 
--- the elements of the array that a name means in the frame at a level, in the order in which they were made; none if it means no array
+-- the elements of the array that a name means in a frame, in the order in which they were made; none if it means no array
 unfoldable pub elements_in : Store → ℕ → List ℕ → Option (Table (List ℕ))
-elements_in store level name = elements_at store (place_in store level name)
+elements_in store frame name = elements_at store (place_in store frame name)
 
 -- indices and values in turn
 abbrev pub pairs_of : Table (List ℕ) → List (List ℕ)
@@ -156,7 +156,7 @@ pairs_of (e ∷ es) = e.0 ∷ e.1 ∷ pairs_of es
 abbrev pub content_count : Content → ℕ
 content_count (Scalar text) = 1
 content_count (Array elements) = 1 + length elements
-content_count (Link level name) = 1
+content_count (Link frame name) = 1
 
 abbrev pub frame_count : Frame → ℕ
 frame_count frame = sum_by (λ e. content_count e.1) frame
@@ -174,7 +174,7 @@ content_with (Some (Scalar text)) None value = Ok (Scalar value)
 content_with (Some (Scalar text)) (Some index) value = Err sets.NotArray
 content_with (Some (Array elements)) None value = Err sets.IsArray
 content_with (Some (Array elements)) (Some index) value = Ok (Array (with_value elements index value))
-content_with (Some (Link level name)) element value = Err sets.NotArray
+content_with (Some (Link frame name)) element value = Err sets.NotArray
 
 -- a store of at most 4,096 variables
 abbrev pub within_variables : {F : Type 0} → F → Store → Result Store F
@@ -188,13 +188,13 @@ abbrev pub with_text_at : Store → Option Place → List ℕ → Result Store S
 with_text_at store None value = Err sets.NotArray
 with_text_at store (Some place) value = with_new_content store place (content_with (content_at store place) place.element value)
 
--- the store after the variable or element that a name means in the frame at a level is set
+-- the store after the variable or element that a name means in a frame is set
 unfoldable pub with_variable : Store → ℕ → List ℕ → List ℕ → Result Store SetFault
-with_variable store level name value = with_text_at store (place_in store level name) value
+with_variable store frame name value = with_text_at store (place_in store frame name) value
 
 -- the store after the element that an index gives of the array that a name means is set
 unfoldable pub with_element : Store → ℕ → List ℕ → List ℕ → List ℕ → Result Store SetFault
-with_element store level name index value = with_text_at store (element_place_in store level name index) value
+with_element store frame name index value = with_text_at store (element_place_in store frame name index) value
 
 -- whether a content is an array; nothing where it can't become one
 abbrev pub array_state : Option Content → Option (List ℕ) → Option Bool
@@ -203,7 +203,7 @@ array_state None (Some index) = None
 array_state (Some (Array elements)) None = Some true
 array_state (Some (Array elements)) (Some index) = None
 array_state (Some (Scalar text)) element = None
-array_state (Some (Link level name)) element = None
+array_state (Some (Link frame name)) element = None
 
 -- an array without elements, where there is no variable; an array stays
 abbrev pub with_array_of : Store → Place → Option Bool → Result Store SetFault
@@ -215,9 +215,9 @@ abbrev pub with_array_at : Store → Option Place → Result Store SetFault
 with_array_at store None = Err sets.NotArray
 with_array_at store (Some place) = with_array_of store place (array_state (content_at store place) place.element)
 
--- the store in which a name means an array in the frame at a level
+-- the store in which a name means an array in a frame
 unfoldable pub with_array : Store → ℕ → List ℕ → Result Store SetFault
-with_array store level name = with_array_at store (place_in store level name)
+with_array store frame name = with_array_at store (place_in store frame name)
 
 -- Linking
 
@@ -230,17 +230,17 @@ abbrev pub holds_value : Option Content → Bool
 holds_value None = false
 holds_value (Some (Scalar text)) = true
 holds_value (Some (Array elements)) = true
-holds_value (Some (Link level name)) = false
+holds_value (Some (Link frame name)) = false
 
 abbrev pub variable_place : ℕ → List ℕ → Place
-variable_place level variable = record { level = level; variable = variable; element = None }
+variable_place frame variable = record { frame = frame; variable = variable; element = None }
 
--- the store in which a name of the frame at a level is a link to a name in an earlier frame
+-- the store in which a name of a frame is a link to a name in an earlier frame
 unfoldable pub with_link : Store → ℕ → List ℕ → ℕ → List ℕ → Result Store LinkFault
-with_link store level name to_level to_name =
+with_link store frame name to_frame to_name =
     if not (is_plain_name name) then Err links.BadName
-    else if holds_value (content_at store (variable_place level name)) then Err links.Exists
-    else within_variables links.Full (with_content store (variable_place level name) (Link to_level to_name))
+    else if holds_value (content_at store (variable_place frame name)) then Err links.Exists
+    else within_variables links.Full (with_content store (variable_place frame name) (Link to_frame to_name))
 
 -- Removing
 
@@ -252,7 +252,7 @@ content_without (Some (Scalar text)) (Some index) = Err unsets.NotArray
 content_without (Some (Array elements)) None = Ok None
 content_without (Some (Array elements)) (Some index) =
     if is_some (value_at elements index) then Ok (Some (Array (without elements index))) else Err unsets.NoElement
-content_without (Some (Link level name)) element = Err unsets.NoVariable
+content_without (Some (Link frame name)) element = Err unsets.NoVariable
 
 -- the frame in which this is left of the content of a variable
 abbrev pub frame_with_rest : Frame → List ℕ → Option Content → Frame
@@ -260,17 +260,17 @@ frame_with_rest frame variable None = without frame variable
 frame_with_rest frame variable (Some content) = with_value frame variable content
 
 abbrev pub with_rest : Store → Place → Result (Option Content) UnsetFault → Result Store UnsetFault
-with_rest store place (Ok rest) = Ok (slice_set store place.level (frame_with_rest (frame_at store place.level) place.variable rest))
+with_rest store place (Ok rest) = Ok (slice_set store place.frame (frame_with_rest (frame_at store place.frame) place.variable rest))
 with_rest store place (Err fault) = Err fault
 
 abbrev pub without_text_at : Store → Option Place → Result Store UnsetFault
 without_text_at store None = Err unsets.NotArray
 without_text_at store (Some place) = with_rest store place (content_without (content_at store place) place.element)
 
--- the store after the variable or element that a name means in the frame at a level is unset
+-- the store after the variable or element that a name means in a frame is unset
 unfoldable pub without_variable : Store → ℕ → List ℕ → Result Store UnsetFault
-without_variable store level name = without_text_at store (place_in store level name)
+without_variable store frame name = without_text_at store (place_in store frame name)
 
 -- the store after the element that an index gives of the array that a name means is unset
 unfoldable pub without_element : Store → ℕ → List ℕ → List ℕ → Result Store UnsetFault
-without_element store level name index = without_text_at store (element_place_in store level name index)
+without_element store frame name index = without_text_at store (element_place_in store frame name index)

@@ -6,6 +6,6 @@ use Rattle.tcl_vars.specs.Store.{Store, end_of}
 
 -- a place on the way leads to where the first one does
 pub record IsOnWay (store : Store) (first place : Place) : Type 0 where
-  pub within : place.level < length store
+  pub within : place.frame < length store
   pub leads : end_of store place ≡ end_of store first
   pub short : IsShortPlace place

@@ -115,7 +115,7 @@ pub(crate) fn link_of<'a>(content: Option<&'a Content>) -> Option<(usize, &'a st
     ensures short { IfSome result (λ link. IsShort link.1.now) }
 {
     match content {
-        Some(Content::Link(level, name)) => Some((*level, name.as_str())),
+        Some(Content::Link(frame, name)) => Some((*frame, name.as_str())),
         Some(Content::Scalar(_)) => None,
         Some(Content::Array(_)) => None,
         None => None,

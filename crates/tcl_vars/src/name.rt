@@ -8,10 +8,10 @@ ghost use Rattle.tcl_vars.specs.Store.{indexed, is_plain_name, variable_place};
 use std::alloc::{AllocError, Global};
 use tcl_text::Text;
 
-/// A variable of the frame at a level, or an element of it where an index is given.
+/// A variable of a frame, or an element of it where an index is given.
 #[derive(Clone, Copy)]
 pub(crate) struct Place<'a> {
-    pub level: usize,
+    pub frame: usize,
     pub variable: &'a str,
     pub element: Option<&'a str>,
 }
@@ -28,7 +28,7 @@ impl<'a> Place<'a> {
             (None, _) => Some(self),
             (Some(_), Some(_)) => None,
             (Some(_), None) => Some(Place {
-                level: self.level,
+                frame: self.frame,
                 variable: self.variable,
                 element: index,
             }),
@@ -43,44 +43,44 @@ pub fn element_of<'a>(name: &'a str) -> Option<(&'a str, &'a str)>
     name.strip_suffix(')')?.split_once('(')
 }
 
-/// Where a name without a leading `::` points in the frame at a level.
-fn place_in_frame<'a>(level: usize, name: &'a str) -> Place<'a>
+/// Where a name without a leading `::` points in a frame.
+fn place_in_frame<'a>(frame: usize, name: &'a str) -> Place<'a>
     requires { IsShort name.now }
-    ensures place { shown result ≡ place_in_frame level name.now }
+    ensures place { shown result ≡ place_in_frame frame name.now }
     ensures short { IsShortPlace (shown result) }
 {
     match element_of(name) {
         Some((variable, index)) => Place {
-            level,
+            frame,
             variable,
             element: Some(index),
         },
         None => Place {
-            level,
+            frame,
             variable: name,
             element: None,
         },
     }
 }
 
-/// Where a name points that is used in the frame at a level: a leading `::` means the global frame.
-pub(crate) fn place_of<'a>(level: usize, name: &'a str) -> Place<'a>
+/// Where a name points that is used in a frame: a leading `::` means the global frame.
+pub(crate) fn place_of<'a>(frame: usize, name: &'a str) -> Place<'a>
     requires { IsShort name.now }
-    ensures place { shown result ≡ place_of level name.now }
+    ensures place { shown result ≡ place_of frame name.now }
     ensures short { IsShortPlace (shown result) }
 {
     match name.strip_prefix("::") {
         Some(rest) => place_in_frame(0, rest),
-        None => place_in_frame(level, name),
+        None => place_in_frame(frame, name),
     }
 }
 
-/// A variable of the frame at a level.
-pub(crate) fn variable_place<'a>(level: usize, variable: &'a str) -> Place<'a>
-    ensures { shown result ≡ variable_place level variable.now }
+/// A variable of a frame.
+pub(crate) fn variable_place<'a>(frame: usize, variable: &'a str) -> Place<'a>
+    ensures { shown result ≡ variable_place frame variable.now }
 {
     Place {
-        level,
+        frame,
         variable,
         element: None,
     }
@@ -103,28 +103,28 @@ pub(crate) fn is_plain(name: &str) -> bool
     !name.starts_with("::") && element_of(name).is_none()
 }
 
-/// Where a name points that is used in the frame at a level.
-pub(crate) fn place_of_text<'a>(level: usize, name: &'a Text) -> Place<'a>
-    ensures place { shown result ≡ place_of level name.now }
+/// Where a name points that is used in a frame.
+pub(crate) fn place_of_text<'a>(frame: usize, name: &'a Text) -> Place<'a>
+    ensures place { shown result ≡ place_of frame name.now }
     ensures short { IsShortPlace (shown result) }
-    ensures level { result.level ≤ level }
+    ensures level { result.frame ≤ frame }
 {
-    place_of(level, name.as_str())
+    place_of(frame, name.as_str())
 }
 
 /// Where the element points that an index gives of the array of a name; none where the name means an element.
-pub(crate) fn element_place<'a>(level: usize, name: &'a Text, index: &'a Text) -> Option<Place<'a>>
-    ensures place { option_map shown result ≡ indexed (place_of level name.now) (Some index.now) }
+pub(crate) fn element_place<'a>(frame: usize, name: &'a Text, index: &'a Text) -> Option<Place<'a>>
+    ensures place { option_map shown result ≡ indexed (place_of frame name.now) (Some index.now) }
     ensures short { IfSome result (λ place. IsShortPlace (shown place)) }
-    ensures level { IfSome result (λ place. place.level ≤ level) }
+    ensures level { IfSome result (λ place. place.frame ≤ frame) }
 {
-    place_of_text(level, name).indexed(Some(index.as_str()))
+    place_of_text(frame, name).indexed(Some(index.as_str()))
 }
 
 /// A place whose names are kept apart from the store, which changes there.
 #[derive(Drop)]
 pub(crate) struct OwnPlace {
-    level: usize,
+    frame: usize,
     variable: String,
     element: Option<String>,
 }
@@ -141,7 +141,7 @@ impl OwnPlace {
             None => None,
         };
         Ok(OwnPlace {
-            level: place.level,
+            frame: place.frame,
             variable,
             element,
         })
@@ -155,7 +155,7 @@ impl OwnPlace {
             None => None,
         };
         Place {
-            level: self.level,
+            frame: self.frame,
             variable: self.variable.as_str(),
             element,
         }

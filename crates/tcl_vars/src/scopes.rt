@@ -97,75 +97,75 @@ impl Scopes {
         self.count -= variable_count(&frame);
     }
 
-    /// The text of the variable or element that a name means in the frame at a level (Tcl(n), set(n)). `NoVariable` (15), `NoElement`
+    /// The text of the variable or element that a name means in a frame (Tcl(n), set(n)). `NoVariable` (15), `NoElement`
     /// (16), `IsArray` (17) where it means a whole array, `NotArray` (18) for an element of what is no array. It takes no memory.
-    pub fn get(&self, level: usize, name: &Text) -> Result<&Text, ReadFault>
-        requires { level < length self.now }
+    pub fn get(&self, frame: usize, name: &Text) -> Result<&Text, ReadFault>
+        requires { frame < length self.now }
         ensures { MatchResult result
-            (λ text. variable_in self.now level name.now ≡ Ok text.now)
-            (λ fault. variable_in self.now level name.now ≡ Err fault) }
+            (λ text. variable_in self.now frame name.now ≡ Ok text.now)
+            (λ fault. variable_in self.now frame name.now ≡ Err fault) }
     {
-        self.read(place_of_text(level, name))
+        self.read(place_of_text(frame, name))
     }
 
-    /// The integer that the text of the variable or element is which a name means in the frame at a level (Tcl(n), expr(n)); none where it
+    /// The integer that the text of the variable or element is which a name means in a frame (Tcl(n), expr(n)); none where it
     /// can't be read or is none. The hint is where in its frame the name stood when it was last read by this hint: a wrong one costs a
     /// look-up. It takes no memory.
-    pub fn number_at(&self, level: usize, name: &Text, hint: &Cell<u32>) -> Option<i64>
-        requires { level < length self.now }
-        ensures { result ≡ number_in self.now level name.now }
+    pub fn number_at(&self, frame: usize, name: &Text, hint: &Cell<u32>) -> Option<i64>
+        requires { frame < length self.now }
+        ensures { result ≡ number_in self.now frame name.now }
     {
-        match self.read_near(place_of_text(level, name), hint) {
+        match self.read_near(place_of_text(frame, name), hint) {
             Ok(text) => integer_in(text),
             Err(_) => None,
         }
     }
 
-    /// The text of the element that an index gives of the array that a name means in the frame at a level (Tcl(n), set(n)).
+    /// The text of the element that an index gives of the array that a name means in a frame (Tcl(n), set(n)).
     /// `NoVariable` (15), `NoElement` (16), `NotArray` (18). It takes no memory.
-    pub fn get_element(&self, level: usize, name: &Text, index: &Text) -> Result<&Text, ReadFault>
-        requires { level < length self.now }
+    pub fn get_element(&self, frame: usize, name: &Text, index: &Text) -> Result<&Text, ReadFault>
+        requires { frame < length self.now }
         ensures { MatchResult result
-            (λ text. element_in self.now level name.now index.now ≡ Ok text.now)
-            (λ fault. element_in self.now level name.now index.now ≡ Err fault) }
+            (λ text. element_in self.now frame name.now index.now ≡ Ok text.now)
+            (λ fault. element_in self.now frame name.now index.now ≡ Err fault) }
     {
-        match element_place(level, name, index) {
+        match element_place(frame, name, index) {
             Some(place) => self.read(place),
             None => Err(ReadFault::NotArray),
         }
     }
 
-    /// Sets the variable or element that a name means in the frame at a level (set(n)). `IsArray` (17) where it means a whole array,
+    /// Sets the variable or element that a name means in a frame (set(n)). `IsArray` (17) where it means a whole array,
     /// `NotArray` (18) for an element of what is no array, `Full` (19) where there would be more than 4,096 variables.
-    pub fn set(&mut self, level: usize, name: &Text, value: Text) -> Result<(), SetFault>
-        requires { level < length self.old }
-        ensures ok { OnOk result (with_variable self.old level name.now value ≡ Ok self.new) }
-        ensures refused { IfErr result (λ fault. fault ≢ SetFault.NoMemory → with_variable self.old level name.now value ≡ Err fault) }
+    pub fn set(&mut self, frame: usize, name: &Text, value: Text) -> Result<(), SetFault>
+        requires { frame < length self.old }
+        ensures ok { OnOk result (with_variable self.old frame name.now value ≡ Ok self.new) }
+        ensures refused { IfErr result (λ fault. fault ≢ SetFault.NoMemory → with_variable self.old frame name.now value ≡ Err fault) }
         ensures err { OnErr result (self.new ≡ self.old) }
-        ensures read { OnOk result (variable_in self.new level name.now ≡ Ok value) }
+        ensures read { OnOk result (variable_in self.new frame name.now ≡ Ok value) }
         ensures levels { length self.new ≡ length self.old }
     {
-        self.write(place_of_text(level, name), value)?;
+        self.write(place_of_text(frame, name), value)?;
         Ok(())
     }
 
-    /// Sets the element that an index gives of the array that a name means in the frame at a level (array(n), `array set`).
+    /// Sets the element that an index gives of the array that a name means in a frame (array(n), `array set`).
     /// `NotArray` (18) where the name means a scalar or an element, `Full` (19) where there would be more than 4,096 variables.
     pub fn set_element(
         &mut self,
-        level: usize,
+        frame: usize,
         name: &Text,
         index: &Text,
         value: Text,
     ) -> Result<(), SetFault>
-        requires { level < length self.old }
-        ensures ok { OnOk result (with_element self.old level name.now index.now value ≡ Ok self.new) }
-        ensures refused { IfErr result (λ fault. fault ≢ SetFault.NoMemory → with_element self.old level name.now index.now value ≡ Err fault) }
+        requires { frame < length self.old }
+        ensures ok { OnOk result (with_element self.old frame name.now index.now value ≡ Ok self.new) }
+        ensures refused { IfErr result (λ fault. fault ≢ SetFault.NoMemory → with_element self.old frame name.now index.now value ≡ Err fault) }
         ensures err { OnErr result (self.new ≡ self.old) }
-        ensures read { OnOk result (element_in self.new level name.now index.now ≡ Ok value) }
+        ensures read { OnOk result (element_in self.new frame name.now index.now ≡ Ok value) }
         ensures levels { length self.new ≡ length self.old }
     {
-        match element_place(level, name, index) {
+        match element_place(frame, name, index) {
             Some(place) => {
                 self.write(place, value)?;
                 Ok(())
@@ -174,50 +174,50 @@ impl Scopes {
         }
     }
 
-    /// Changes the text of the variable or element that a name means in the frame at a level, which has to be there. Characters
+    /// Changes the text of the variable or element that a name means in a frame, which has to be there. Characters
     /// that are added to a text which nobody else holds cost what they are long (append(n), lappend(n)). `Unread` where it can't be read
     /// (15 to 18), `BadList` (3) where items are added to what is no list, `TooLong` (4) where the text would pass 65,536 bytes.
-    pub fn change(&mut self, level: usize, name: &Text, edit: Edit<'_>) -> Result<(), ChangeFault>
-        requires { level < length self.old }
-        ensures ok { OnOk result (Changes self.old level name.now edit.entry self.new) }
-        ensures refused { IfErr result (λ fault. fault ≢ ChangeFault.NoMemory → edited_by edit.entry (variable_in self.old level name.now) ≡ Err fault) }
+    pub fn change(&mut self, frame: usize, name: &Text, edit: Edit<'_>) -> Result<(), ChangeFault>
+        requires { frame < length self.old }
+        ensures ok { OnOk result (Changes self.old frame name.now edit.entry self.new) }
+        ensures refused { IfErr result (λ fault. fault ≢ ChangeFault.NoMemory → edited_by edit.entry (variable_in self.old frame name.now) ≡ Err fault) }
         ensures err { OnErr result (self.new ≡ self.old) }
         ensures levels { length self.new ≡ length self.old }
     {
         let _ = &self.frames;
-        self.change_at(place_of_text(level, name), edit)?;
+        self.change_at(place_of_text(frame, name), edit)?;
         Ok(())
     }
 
-    /// Unsets the variable or element that a name means in the frame at a level; an array with its elements (unset(n)). A link stays.
+    /// Unsets the variable or element that a name means in a frame; an array with its elements (unset(n)). A link stays.
     /// `NoVariable` (15), `NoElement` (16), `NotArray` (18) for an element of what is no array.
-    pub fn unset(&mut self, level: usize, name: &Text) -> Result<(), UnsetFault>
-        requires { level < length self.old }
-        ensures ok { OnOk result (without_variable self.old level name.now ≡ Ok self.new) }
-        ensures refused { IfErr result (λ fault. fault ≢ UnsetFault.NoMemory → without_variable self.old level name.now ≡ Err fault) }
+    pub fn unset(&mut self, frame: usize, name: &Text) -> Result<(), UnsetFault>
+        requires { frame < length self.old }
+        ensures ok { OnOk result (without_variable self.old frame name.now ≡ Ok self.new) }
+        ensures refused { IfErr result (λ fault. fault ≢ UnsetFault.NoMemory → without_variable self.old frame name.now ≡ Err fault) }
         ensures err { OnErr result (self.new ≡ self.old) }
-        ensures gone { OnOk result (has_variable self.new level name.now ≡ false) }
+        ensures gone { OnOk result (has_variable self.new frame name.now ≡ false) }
         ensures levels { length self.new ≡ length self.old }
     {
-        self.erase(place_of_text(level, name))?;
+        self.erase(place_of_text(frame, name))?;
         Ok(())
     }
 
-    /// Unsets the element that an index gives of the array that a name means in the frame at a level (array(n), `array unset`).
+    /// Unsets the element that an index gives of the array that a name means in a frame (array(n), `array unset`).
     /// `NoVariable` (15), `NoElement` (16), `NotArray` (18).
     pub fn unset_element(
         &mut self,
-        level: usize,
+        frame: usize,
         name: &Text,
         index: &Text,
     ) -> Result<(), UnsetFault>
-        requires { level < length self.old }
-        ensures ok { OnOk result (without_element self.old level name.now index.now ≡ Ok self.new) }
-        ensures refused { IfErr result (λ fault. fault ≢ UnsetFault.NoMemory → without_element self.old level name.now index.now ≡ Err fault) }
+        requires { frame < length self.old }
+        ensures ok { OnOk result (without_element self.old frame name.now index.now ≡ Ok self.new) }
+        ensures refused { IfErr result (λ fault. fault ≢ UnsetFault.NoMemory → without_element self.old frame name.now index.now ≡ Err fault) }
         ensures err { OnErr result (self.new ≡ self.old) }
         ensures levels { length self.new ≡ length self.old }
     {
-        match element_place(level, name, index) {
+        match element_place(frame, name, index) {
             Some(place) => {
                 self.erase(place)?;
                 Ok(())
@@ -226,55 +226,55 @@ impl Scopes {
         }
     }
 
-    /// Whether there is the variable or element that a name means in the frame at a level (info(n), `info exists`). It takes no memory.
-    pub fn exists(&self, level: usize, name: &Text) -> bool
-        requires { level < length self.now }
-        ensures { result ≡ has_variable self.now level name.now }
+    /// Whether there is the variable or element that a name means in a frame (info(n), `info exists`). It takes no memory.
+    pub fn exists(&self, frame: usize, name: &Text) -> bool
+        requires { frame < length self.now }
+        ensures { result ≡ has_variable self.now frame name.now }
     {
-        match self.lead(place_of_text(level, name)) {
+        match self.lead(place_of_text(frame, name)) {
             Some(found) => is_there(found.content, found.place.element),
             None => false,
         }
     }
 
-    /// Whether a name means an element in the frame at a level, or an element of an element, and so no variable. It takes no memory.
-    pub fn is_element(&self, level: usize, name: &Text) -> bool
-        requires { level < length self.now }
-        ensures { result ≡ is_element_in self.now level name.now }
+    /// Whether a name means an element in a frame, or an element of an element, and so no variable. It takes no memory.
+    pub fn is_element(&self, frame: usize, name: &Text) -> bool
+        requires { frame < length self.now }
+        ensures { result ≡ is_element_in self.now frame name.now }
     {
-        match self.lead(place_of_text(level, name)) {
+        match self.lead(place_of_text(frame, name)) {
             Some(found) => is_given(found.place.element),
             None => true,
         }
     }
 
-    /// Makes a name of the frame at a level a link to a name in an earlier frame (upvar(n), global(n)). A link is replaced. `BadName` for
+    /// Makes a name of a frame a link to a name in an earlier frame (upvar(n), global(n)). A link is replaced. `BadName` for
     /// an element's name or one with a leading `::`, `Exists` where a variable that is no link has the name, both without a number; `Full`
     /// (19) where there would be more than 4,096 variables.
     pub fn link(
         &mut self,
-        level: usize,
+        frame: usize,
         name: &Text,
-        to_level: usize,
+        to_frame: usize,
         to_name: &Text,
     ) -> Result<(), LinkFault>
-        requires level { level < length self.old }
-        requires earlier { to_level < level }
-        ensures ok { OnOk result (with_link self.old level name.now to_level to_name.now ≡ Ok self.new) }
-        ensures refused { IfErr result (λ fault. fault ≢ LinkFault.NoMemory → with_link self.old level name.now to_level to_name.now ≡ Err fault) }
+        requires level { frame < length self.old }
+        requires earlier { to_frame < frame }
+        ensures ok { OnOk result (with_link self.old frame name.now to_frame to_name.now ≡ Ok self.new) }
+        ensures refused { IfErr result (λ fault. fault ≢ LinkFault.NoMemory → with_link self.old frame name.now to_frame to_name.now ≡ Err fault) }
         ensures err { OnErr result (self.new ≡ self.old) }
-        ensures leads { OnOk result (variable_in self.new level name.now ≡ variable_in self.old to_level to_name.now) }
+        ensures leads { OnOk result (variable_in self.new frame name.now ≡ variable_in self.old to_frame to_name.now) }
         ensures levels { length self.new ≡ length self.old }
     {
         let _ = &self.frames;
         if !is_plain(name.as_str()) {
             return Err(LinkFault::BadName);
         }
-        let place = variable_place(level, name.as_str());
+        let place = variable_place(frame, name.as_str());
         if holds_value(self.content(place)) {
             return Err(LinkFault::Exists);
         }
-        let link = Content::Link(to_level, to_name.copy()?);
+        let link = Content::Link(to_frame, to_name.copy()?);
         if self.give(place, link)? {
             Ok(())
         } else {
@@ -282,16 +282,16 @@ impl Scopes {
         }
     }
 
-    /// Makes the variable that a name means in the frame at a level an array without elements, if it isn't there; an array stays (array(n),
+    /// Makes the variable that a name means in a frame an array without elements, if it isn't there; an array stays (array(n),
     /// `array set`). `NotArray` (18) for a scalar or an element, `Full` (19) where there would be more than 4,096 variables.
-    pub fn make_array(&mut self, level: usize, name: &Text) -> Result<(), SetFault>
-        requires { level < length self.old }
-        ensures ok { OnOk result (with_array self.old level name.now ≡ Ok self.new) }
-        ensures refused { IfErr result (λ fault. fault ≢ SetFault.NoMemory → with_array self.old level name.now ≡ Err fault) }
+    pub fn make_array(&mut self, frame: usize, name: &Text) -> Result<(), SetFault>
+        requires { frame < length self.old }
+        ensures ok { OnOk result (with_array self.old frame name.now ≡ Ok self.new) }
+        ensures refused { IfErr result (λ fault. fault ≢ SetFault.NoMemory → with_array self.old frame name.now ≡ Err fault) }
         ensures err { OnErr result (self.new ≡ self.old) }
         ensures levels { length self.new ≡ length self.old }
     {
-        let Some(found) = self.lead(place_of_text(level, name)) else {
+        let Some(found) = self.lead(place_of_text(frame, name)) else {
             return Err(SetFault::NotArray);
         };
         match array_state(found.content, found.place.element) {
@@ -307,56 +307,56 @@ impl Scopes {
         }
     }
 
-    /// Whether a name means an array in the frame at a level (array(n), `array exists`). It takes no memory.
-    pub fn has_array(&self, level: usize, name: &Text) -> bool
-        requires { level < length self.now }
-        ensures { result ≡ is_some (elements_in self.now level name.now) }
+    /// Whether a name means an array in a frame (array(n), `array exists`). It takes no memory.
+    pub fn has_array(&self, frame: usize, name: &Text) -> bool
+        requires { frame < length self.now }
+        ensures { result ≡ is_some (elements_in self.now frame name.now) }
     {
-        self.elements(level, name).is_some()
+        self.elements(frame, name).is_some()
     }
 
-    /// How many elements the array has that a name means in the frame at a level; 0 if there is none (array(n), `array size`). It takes no
+    /// How many elements the array has that a name means in a frame; 0 if there is none (array(n), `array size`). It takes no
     /// memory.
-    pub fn array_size(&self, level: usize, name: &Text) -> usize
-        requires { level < length self.now }
-        ensures { result ≡ length (unwrap_or (elements_in self.now level name.now) []) }
+    pub fn array_size(&self, frame: usize, name: &Text) -> usize
+        requires { frame < length self.now }
+        ensures { result ≡ length (unwrap_or (elements_in self.now frame name.now) []) }
     {
-        match self.elements(level, name) {
+        match self.elements(frame, name) {
             Some(elements) => elements.len(),
             None => 0,
         }
     }
 
-    /// The indices of the array that a name means in the frame at a level, in the order in which the elements were made; none if there is no
+    /// The indices of the array that a name means in a frame, in the order in which the elements were made; none if there is no
     /// array (array(n), `array names`).
-    pub fn array_names(&self, level: usize, name: &Text) -> Result<TextList, AllocError>
-        requires { level < length self.now }
-        ensures { IfOk result (λ names. names ≡ map (λ e. e.0) (unwrap_or (elements_in self.now level name.now) [])) }
+    pub fn array_names(&self, frame: usize, name: &Text) -> Result<TextList, AllocError>
+        requires { frame < length self.now }
+        ensures { IfOk result (λ names. names ≡ map (λ e. e.0) (unwrap_or (elements_in self.now frame name.now) [])) }
     {
-        match self.elements(level, name) {
+        match self.elements(frame, name) {
             Some(elements) => names_of(self.alloc, elements),
             None => Ok(TextList::new(self.alloc)),
         }
     }
 
-    /// The indices and values of the array that a name means in the frame at a level, in turn, in the order in which the elements were made;
+    /// The indices and values of the array that a name means in a frame, in turn, in the order in which the elements were made;
     /// none if there is no array (array(n), `array get`).
-    pub fn array_pairs(&self, level: usize, name: &Text) -> Result<TextList, AllocError>
-        requires { level < length self.now }
-        ensures { IfOk result (λ pairs. pairs ≡ pairs_of (unwrap_or (elements_in self.now level name.now) [])) }
+    pub fn array_pairs(&self, frame: usize, name: &Text) -> Result<TextList, AllocError>
+        requires { frame < length self.now }
+        ensures { IfOk result (λ pairs. pairs ≡ pairs_of (unwrap_or (elements_in self.now frame name.now) [])) }
     {
-        match self.elements(level, name) {
+        match self.elements(frame, name) {
             Some(elements) => pairs_of(self.alloc, elements),
             None => Ok(TextList::new(self.alloc)),
         }
     }
 
     // The elements of the array that a name means.
-    fn elements(&self, level: usize, name: &Text) -> Option<&Table<Text>>
-        requires { level < length self.now }
-        ensures { option_copied result ≡ elements_in self.now level name.now }
+    fn elements(&self, frame: usize, name: &Text) -> Option<&Table<Text>>
+        requires { frame < length self.now }
+        ensures { option_copied result ≡ elements_in self.now frame name.now }
     {
-        match self.lead(place_of_text(level, name)) {
+        match self.lead(place_of_text(frame, name)) {
             Some(found) => elements_of(found.content, found.place.element),
             None => None,
         }
@@ -365,18 +365,18 @@ impl Scopes {
     // Gives the variable of a place, which isn't there or counts one, a content that counts one; false, and nothing is done, where there
     // is no room.
     fn give(&mut self, place: Place<'_>, content: Content) -> Result<bool, AllocError>
-        requires level { place.level < length self.old }
+        requires level { place.frame < length self.old }
         requires short { IsShortPlace (shown place) }
         requires light { content_count content ≡ 1 }
         requires replaceable { weight_of content_count (content_at self.old (shown place)) ≤ 1 }
-        requires below { IsBelow place.level content }
+        requires below { IsBelow place.frame content }
         ensures ok { IfOk result (λ given. MatchBool given
             ((self.new ≡ with_content self.old (shown place.entry) content) × (variable_count self.new ≤ most_variables))
             ((self.new ≡ self.old) × (most_variables < variable_count (with_content self.old (shown place.entry) content)))) }
         ensures err { OnErr result (self.new ≡ self.old) }
     {
         let room = MAX_VARIABLES - self.count;
-        let frame = &mut self.frames[place.level];
+        let frame = &mut self.frames[place.frame];
         match give(frame, place.variable, content, room)? {
             Some(added) => {
                 self.count += added;
@@ -388,42 +388,42 @@ impl Scopes {
 
     // What the variable of a place stands for.
     fn content(&self, place: Place<'_>) -> Option<&Content>
-        requires { place.level < length self.now }
+        requires { place.frame < length self.now }
         ensures { option_copied result ≡ content_at self.now (shown place.entry) }
     {
-        self.frames[place.level].get(place.variable)
+        self.frames[place.frame].get(place.variable)
     }
 
     // The same, where its place in the frame is hinted.
     fn content_near(&self, place: Place<'_>, hint: &Cell<u32>) -> Option<&Content>
-        requires { place.level < length self.now }
+        requires { place.frame < length self.now }
         ensures { option_copied result ≡ content_at self.now (shown place.entry) }
     {
-        self.frames[place.level].near(hint, place.variable)
+        self.frames[place.frame].near(hint, place.variable)
     }
 
     // Follows links, each to an earlier frame, and gives where they end; none where an element is used as an array.
     fn lead<'s: 'n, 'n>(&'s self, mut place: Place<'n>) -> Option<Found<'s, 'n>>
-        requires level { place.level < length self.now }
+        requires level { place.frame < length self.now }
         requires short { IsShortPlace (shown place) }
         ensures { MatchOption result
             (end_of self.now (shown place.entry) ≡ None)
-            (λ found. (found.place.level < length self.now) × (end_of self.now (shown place.entry) ≡ Some (shown found.place))
+            (λ found. (found.place.frame < length self.now) × (end_of self.now (shown place.entry) ≡ Some (shown found.place))
             × (option_copied found.content ≡ content_at self.now (shown found.place)) × IsShortPlace (shown found.place)) }
     {
         let _ = &self.frames;
         loop {
             let content = self.content(place);
-            let Some((level, name)) = link_of(content) else {
+            let Some((frame, name)) = link_of(content) else {
                 return Some(Found { place, content });
             };
-            place = place_of(level, name).indexed(place.element)?;
+            place = place_of(frame, name).indexed(place.element)?;
         }
     }
 
     // The text to which a place leads.
     fn read(&self, place: Place<'_>) -> Result<&Text, ReadFault>
-        requires level { place.level < length self.now }
+        requires level { place.frame < length self.now }
         requires short { IsShortPlace (shown place) }
         ensures { MatchResult result
             (λ text. text_at self.now (end_of self.now (shown place.entry)) ≡ Ok text.now)
@@ -437,7 +437,7 @@ impl Scopes {
 
     // The same, where the place of its variable in the frame is hinted.
     fn read_near(&self, place: Place<'_>, hint: &Cell<u32>) -> Result<&Text, ReadFault>
-        requires level { place.level < length self.now }
+        requires level { place.frame < length self.now }
         requires short { IsShortPlace (shown place) }
         ensures { MatchResult result
             (λ text. text_at self.now (end_of self.now (shown place.entry)) ≡ Ok text.now)
@@ -452,7 +452,7 @@ impl Scopes {
 
     // Sets the text to which a place leads.
     fn write(&mut self, place: Place<'_>, value: Text) -> Result<(), SetFault>
-        requires level { place.level < length self.old }
+        requires level { place.frame < length self.old }
         requires short { IsShortPlace (shown place) }
         ensures { SetsThere self.old (shown place.entry) value result self.new }
     {
@@ -468,7 +468,7 @@ impl Scopes {
 
     // Sets the text to which the link of a place leads.
     fn write_linked(&mut self, place: Place<'_>, value: Text) -> Result<(), SetFault>
-        requires level { place.level < length self.old }
+        requires level { place.frame < length self.old }
         requires short { IsShortPlace (shown place) }
         ensures { SetsThere self.old (shown place.entry) value result self.new }
     {
@@ -483,7 +483,7 @@ impl Scopes {
 
     // Sets the text of a place, or gives it back where the variable is a link.
     fn put(&mut self, place: Place<'_>, value: Text) -> Result<Option<Text>, SetFault>
-        requires level { place.level < length self.old }
+        requires level { place.frame < length self.old }
         requires short { IsShortPlace (shown place) }
         ensures ok { IfOk result (λ back. MatchOption back
             (Sets self.old (shown place.entry) value (Ok self.new))
@@ -493,7 +493,7 @@ impl Scopes {
     {
         let alloc = self.alloc;
         let room = MAX_VARIABLES - self.count;
-        let frame = &mut self.frames[place.level];
+        let frame = &mut self.frames[place.frame];
         match put(alloc, frame, place, value, room)? {
             Outcome::Added(added) => {
                 self.count += added;
@@ -505,7 +505,7 @@ impl Scopes {
 
     // Changes the text to which a place leads.
     fn change_at(&mut self, place: Place<'_>, edit: Edit<'_>) -> Result<(), ChangeFault>
-        requires level { place.level < length self.old }
+        requires level { place.frame < length self.old }
         requires short { IsShortPlace (shown place) }
         ensures { ChangesThere self.old (shown place.entry) edit.entry result self.new }
     {
@@ -520,7 +520,7 @@ impl Scopes {
 
     // Changes the text to which the link of a place leads.
     fn change_linked(&mut self, place: Place<'_>, edit: Edit<'_>) -> Result<(), ChangeFault>
-        requires level { place.level < length self.old }
+        requires level { place.frame < length self.old }
         requires short { IsShortPlace (shown place) }
         ensures { ChangesThere self.old (shown place.entry) edit.entry result self.new }
     {
@@ -535,7 +535,7 @@ impl Scopes {
 
     // Changes the text of a place; false, and nothing is done, where the variable is a link.
     fn change_here(&mut self, place: Place<'_>, edit: Edit<'_>) -> Result<bool, ChangeFault>
-        requires { place.level < length self.old }
+        requires { place.frame < length self.old }
         ensures ok { IfOk result (λ done. MatchBool done
             (ChangesHere self.old (shown place.entry) edit.entry self.new)
             ((link_of (content_at self.old (shown place.entry)) ≢ None) × (self.new ≡ self.old))) }
@@ -543,14 +543,14 @@ impl Scopes {
         ensures err { OnErr result (self.new ≡ self.old) }
     {
         let alloc = self.alloc;
-        let frame = &mut self.frames[place.level];
+        let frame = &mut self.frames[place.frame];
         let done = change(alloc, frame, place, edit)?;
         Ok(done)
     }
 
     // Unsets the text to which a place leads.
     fn erase(&mut self, place: Place<'_>) -> Result<(), UnsetFault>
-        requires level { place.level < length self.old }
+        requires level { place.frame < length self.old }
         requires short { IsShortPlace (shown place) }
         ensures { UnsetsThere self.old (shown place.entry) result self.new }
     {
@@ -564,7 +564,7 @@ impl Scopes {
 
     // Unsets the text to which the link of a place leads.
     fn erase_linked(&mut self, place: Place<'_>) -> Result<(), UnsetFault>
-        requires level { place.level < length self.old }
+        requires level { place.frame < length self.old }
         requires short { IsShortPlace (shown place) }
         ensures { UnsetsThere self.old (shown place.entry) result self.new }
     {
@@ -579,7 +579,7 @@ impl Scopes {
 
     // Unsets the text of a place; false, and nothing is done, where the variable is a link.
     fn take(&mut self, place: Place<'_>) -> Result<bool, UnsetFault>
-        requires { place.level < length self.old }
+        requires { place.frame < length self.old }
         ensures ok { IfOk result (λ done. MatchBool done
             (Unsets self.old (shown place.entry) (Ok self.new))
             ((link_of (content_at self.old (shown place.entry)) ≢ None) × (self.new ≡ self.old))) }
@@ -587,7 +587,7 @@ impl Scopes {
         ensures refused { IfErr result (λ fault. Unsets self.old (shown place.entry) (Err fault)) }
         ensures err { OnErr result (self.new ≡ self.old) }
     {
-        let frame = &mut self.frames[place.level];
+        let frame = &mut self.frames[place.frame];
         match unset(frame, place)? {
             Some(removed) => {
                 self.count -= removed;

@@ -2,7 +2,7 @@
 use Rattle.std.proofs.Common.{◌≡◌, ◌⊎◌, inl, inr, ℕ, List, refl, sym, ap, ◌∙◌, Result, Ok, Err, IfOk, IfErr, IsOk}
 use Rattle.tcl_words.specs.Reading.{commands_of, index_pieces_of}
 use Rattle.tcl_words.specs.Grammar.{IsScriptOf, IsScriptFault, IsScriptParse, IsIndexOf, IsIndexParse}
-use Rattle.tcl_words.specs.One.{One}
+use Rattle.tcl_text.specs.One.{One}
 use Rattle.tcl_words.specs.declared.script.Piece.{Piece}
 use Rattle.tcl_words.specs.declared.script.Command.{Command}
 use Rattle.tcl_text.specs.declared.fault.ParseFault.{ParseFault}

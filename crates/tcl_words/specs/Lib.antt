@@ -12,5 +12,4 @@ pub mod Parts
 pub mod Room
 pub mod Spans
 pub mod Grammar
-pub mod One
 pub mod Joining

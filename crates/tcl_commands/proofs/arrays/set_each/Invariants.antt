@@ -5,7 +5,7 @@ use Rattle.tcl_commands.proofs.arrays.set_each.Given as goal
 
 abbrev pub invariant-loop-rest : goal.invariant-loop-rest
 invariant-loop-rest l = record {
-  others : each_done (set_element l.level l.name) (pairs l.rest) l.scopes ≡ each_done (set_element l.level l.name) (pairs l.items) l.initial.scopes;
+  others : each_done (set_element l.frame l.name) (pairs l.rest) l.scopes ≡ each_done (set_element l.frame l.name) (pairs l.items) l.initial.scopes;
   levels : length l.scopes ≡ length l.initial.scopes;
 }
 

@@ -5,7 +5,7 @@ use Rattle.tcl_commands.proofs.arrays.unset_elements.Given as goal
 
 abbrev pub invariant-loop-rest : goal.invariant-loop-rest
 invariant-loop-rest l = record {
-  others : each_done (unset_element l.level l.name) l.rest l.scopes ≡ each_done (unset_element l.level l.name) l.indices l.initial.scopes;
+  others : each_done (unset_element l.frame l.name) l.rest l.scopes ≡ each_done (unset_element l.frame l.name) l.indices l.initial.scopes;
   levels : length l.scopes ≡ length l.initial.scopes;
 }
 

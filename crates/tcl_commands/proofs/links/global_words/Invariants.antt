@@ -4,7 +4,7 @@ use Rattle.tcl_commands.proofs.links.global_words.Given as goal
 
 abbrev pub invariant-loop-rest : goal.invariant-loop-rest
 invariant-loop-rest l = record {
-  others : link_globals l.level l.rest l.scopes ≡ global_words l.level l.words l.fn.scopes;
+  others : link_globals l.frame l.rest l.scopes ≡ global_words l.frame l.words l.fn.scopes;
   levels : length l.scopes ≡ length l.fn.scopes;
 }
 

@@ -4,7 +4,7 @@ use Rattle.tcl_commands.proofs.links.upvar_words.Given as goal
 
 abbrev pub invariant-loop-rest : goal.invariant-loop-rest
 invariant-loop-rest l = record {
-  others : link_pairs l.level l.to_level l.rest l.scopes ≡ upvar_words l.level l.to_level l.words l.fn.scopes;
+  others : link_pairs l.frame l.to_frame l.rest l.scopes ≡ upvar_words l.frame l.to_frame l.words l.fn.scopes;
   levels : length l.scopes ≡ length l.fn.scopes;
 }
 

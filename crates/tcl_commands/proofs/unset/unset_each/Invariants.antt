@@ -4,7 +4,7 @@ use Rattle.tcl_commands.proofs.unset.unset_each.Given as goal
 
 abbrev pub invariant-loop-rest : goal.invariant-loop-rest
 invariant-loop-rest l = record {
-  others : unset_each l.quiet l.level l.rest l.scopes ≡ unset_each l.quiet l.level l.names l.initial.scopes;
+  others : unset_each l.quiet l.frame l.rest l.scopes ≡ unset_each l.quiet l.frame l.names l.initial.scopes;
   levels : length l.scopes ≡ length l.initial.scopes;
 }
 

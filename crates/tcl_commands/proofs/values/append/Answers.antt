@@ -8,6 +8,6 @@ use Rattle.tcl_commands.proofs.values.append.Goals as goal
 pub returns-clause-does : goal.returns-clause-does
 returns-clause-does c =
     subst (λ done. Does c.change.result c.change.new.scopes done)
-    (appends c.as_str.result c.args.values.now c.args.level c.args.name.now c.args.scopes.now
+    (appends c.as_str.result c.args.values.now c.args.frame c.args.name.now c.args.scopes.now
     (c.as_str.ensures.value ∙ c.in_ok-push_all.ensures ∙ ap (λ t. t ++ concat c.args.values.now) c.in_ok-more.ensures.bytes))
     c.change.ensures.does

@@ -4,7 +4,7 @@ use Rattle.tcl_control.proofs.procedure.enter.Given as goal
 
 abbrev pub invariant-parameters : goal.invariant-parameters
 invariant-parameters l = record {
-  same : entered l.level l.left l.rest l.scopes ≡ entered l.level l.parameters l.words l.fn.scopes;
+  same : entered l.frame l.left l.rest l.scopes ≡ entered l.frame l.parameters l.words l.fn.scopes;
   levels : length l.scopes ≡ length l.fn.scopes;
 }
 

@@ -29,4 +29,4 @@ returns-clause-ok c =
     }
 
 pub returns-clause-levels : goal.returns-clause-levels
-returns-clause-levels c = length-with_variable c.args.self.now c.change_at.new.self c.args.level c.args.name.now (returns-clause-ok c).value (returns-clause-ok c).set
+returns-clause-levels c = length-with_variable c.args.self.now c.change_at.new.self c.args.frame c.args.name.now (returns-clause-ok c).value (returns-clause-ok c).set

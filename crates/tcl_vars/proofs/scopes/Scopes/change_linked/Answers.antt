@@ -13,7 +13,7 @@ pub returns : goal.returns
 returns c =
     let own = c.place.ensures ∙ c.in_ok-end-in-Some.ensures in
     let linkless : link_of (content_at c.args.self.now (shown c.in-Some.found.place)) ≡ None
-    = led-end c.args.self.now (LinksDescend-frames c.args.self.now (subst FramesDescend c.self.view_is c.self.invariant.descending)) c.args.place.level (shown c.args.place) (shown c.in-Some.found.place) (le_refl _) c.in-Some.ensures.1 in
+    = led-end c.args.self.now (LinksDescend-frames c.args.self.now (subst FramesDescend c.self.view_is c.self.invariant.descending)) c.args.place.frame (shown c.args.place) (shown c.in-Some.found.place) (le_refl _) c.in-Some.ensures.1 in
     record {
       ok = ChangesAt-led c.args.self.now (shown c.args.place) c.args.edit (shown c.in-Some.found.place) c.change_here.new.self c.in-Some.ensures.1
           (subst (λ place. ChangesHere c.args.self.now place c.args.edit c.change_here.new.self) own

@@ -15,7 +15,7 @@ pub returns : goal.returns
 returns c =
     let own = c.place.ensures ∙ c.in_ok-end-in-Some.ensures in
     let linkless : link_of (content_at c.args.self.now (shown c.in-Some.found.place)) ≡ None
-    = led-end c.args.self.now (LinksDescend-frames c.args.self.now (subst FramesDescend c.self.view_is c.self.invariant.descending)) c.args.place.level (shown c.args.place) (shown c.in-Some.found.place) (le_refl _) c.in-Some.ensures.1 in
+    = led-end c.args.self.now (LinksDescend-frames c.args.self.now (subst FramesDescend c.self.view_is c.self.invariant.descending)) c.args.place.frame (shown c.args.place) (shown c.in-Some.found.place) (le_refl _) c.in-Some.ensures.1 in
     let own_linkless = ap (λ place. link_of (content_at c.args.self.now place)) own ∙ linkless in
     record {
       ok = without_text_at-led c.args.self.now (shown c.args.place) (Ok c.take.new.self) (shown c.in-Some.found.place) c.in-Some.ensures.1

@@ -7,6 +7,6 @@ use Rattle.tcl_vars.proofs.scopes.Scopes.get.Goals as goal
 pub returns : goal.returns
 unfolding variable_in
 returns c =
-    let read : variable_in c.args.self.now c.args.level c.args.name.now ≡ text_at c.args.self.now (end_of c.args.self.now (shown c.place_of_text.result))
+    let read : variable_in c.args.self.now c.args.frame c.args.name.now ≡ text_at c.args.self.now (end_of c.args.self.now (shown c.place_of_text.result))
     = ap (λ p. text_at c.args.self.now (end_of c.args.self.now p)) (sym c.place_of_text.ensures.place) in
     rw read c.read.ensures

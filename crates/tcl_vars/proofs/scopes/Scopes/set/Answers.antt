@@ -23,4 +23,4 @@ unfolding variable_in
 returns-clause-read c = ap (λ p. text_at c.write.new.self (end_of c.write.new.self p)) (sym c.place_of_text.ensures.place) ∙ c.in_ok-write.ensures.read
 
 pub returns-clause-levels : goal.returns-clause-levels
-returns-clause-levels c = length-with_variable c.args.self.now c.write.new.self c.args.level c.args.name.now c.args.value (returns-clause-ok c)
+returns-clause-levels c = length-with_variable c.args.self.now c.write.new.self c.args.frame c.args.name.now c.args.value (returns-clause-ok c)

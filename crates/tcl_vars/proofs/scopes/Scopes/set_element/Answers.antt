@@ -32,4 +32,4 @@ returns-in_ok-write-in-Some-clause-read c =
 
 pub returns-in_ok-write-in-Some-clause-levels : goal.returns-in_ok-write-in-Some-clause-levels
 returns-in_ok-write-in-Some-clause-levels c =
-    length-with_element c.args.self.now c.write.new.self c.args.level c.args.name.now c.args.index.now c.args.value (returns-in_ok-write-in-Some-clause-ok c)
+    length-with_element c.args.self.now c.write.new.self c.args.frame c.args.name.now c.args.index.now c.args.value (returns-in_ok-write-in-Some-clause-ok c)

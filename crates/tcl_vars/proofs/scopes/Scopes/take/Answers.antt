@@ -12,17 +12,17 @@ use Rattle.tcl_vars.proofs.scopes.Scopes.take.Goals as goal
 
 pub invariant_of-self-in-Some : goal.invariant_of-self-in-Some
 invariant_of-self-in-Some c =
-    let within : c.args.place.level < length c.self.inside.frames.items = omega (arith, ap length c.self.view_is) in
-    let frame : c.index_mut-frame.result.now ≡ frame_at c.self.inside.frames.items c.args.place.level
-    = c.index_mut-frame.ensures.value ∙ get_or_default c.self.inside.frames.items c.args.place.level c.index_mut-frame.result.now [] within in
+    let within : c.args.place.frame < length c.self.inside.frames.items = omega (arith, ap length c.self.view_is) in
+    let frame : c.index_mut-frame.result.now ≡ frame_at c.self.inside.frames.items c.args.place.frame
+    = c.index_mut-frame.ensures.value ∙ get_or_default c.self.inside.frames.items c.args.place.frame c.index_mut-frame.result.now [] within in
     IsSound-unset c.self.inside.frames.items c.self.inside.count c.self.invariant (shown c.args.place) within c.in-Some.removed c.unset.new.frame
     (subst (λ f. UnsetsText f (shown c.args.place) c.in-Some.removed c.unset.new.frame) frame (rw c.in-Some.is at c.in_ok-removed.ensures.ok))
 
 pub returns-in-Some-clause-gone : goal.returns-in-Some-clause-gone
 returns-in-Some-clause-gone c =
-    let within : c.args.place.level < length c.self.inside.frames.items = omega (arith, ap length c.self.view_is) in
-    let frame : c.index_mut-frame.result.now ≡ frame_at c.self.inside.frames.items c.args.place.level
-    = c.index_mut-frame.ensures.value ∙ get_or_default c.self.inside.frames.items c.args.place.level c.index_mut-frame.result.now [] within in
-    subst (λ s. IsGone s (set c.self.inside.frames.items c.args.place.level c.unset.new.frame) (shown c.args.place)) c.self.view_is
+    let within : c.args.place.frame < length c.self.inside.frames.items = omega (arith, ap length c.self.view_is) in
+    let frame : c.index_mut-frame.result.now ≡ frame_at c.self.inside.frames.items c.args.place.frame
+    = c.index_mut-frame.ensures.value ∙ get_or_default c.self.inside.frames.items c.args.place.frame c.index_mut-frame.result.now [] within in
+    subst (λ s. IsGone s (set c.self.inside.frames.items c.args.place.frame c.unset.new.frame) (shown c.args.place)) c.self.view_is
     (IsGone-set c.self.inside.frames.items (shown c.args.place) within c.in-Some.removed c.unset.new.frame
     (subst (λ f. UnsetsText f (shown c.args.place) c.in-Some.removed c.unset.new.frame) frame (rw c.in-Some.is at c.in_ok-removed.ensures.ok)))

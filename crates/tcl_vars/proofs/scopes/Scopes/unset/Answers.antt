@@ -19,7 +19,7 @@ returns-in_err-erase-clause-refused c =
     ap (λ p. without_text_at c.args.self.now (end_of c.args.self.now p)) (sym c.place_of_text.ensures.place) ∙ c.in_err-erase.ensures.refused other)
 
 pub returns-clause-levels : goal.returns-clause-levels
-returns-clause-levels c = length-without_variable c.args.self.now c.erase.new.self c.args.level c.args.name.now (returns-clause-ok c)
+returns-clause-levels c = length-without_variable c.args.self.now c.erase.new.self c.args.frame c.args.name.now (returns-clause-ok c)
 
 pub returns-clause-gone : goal.returns-clause-gone
 unfolding has_variable

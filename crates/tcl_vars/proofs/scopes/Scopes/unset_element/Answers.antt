@@ -24,4 +24,4 @@ returns-in-None-clause-refused c = λ _.
 
 pub returns-in_ok-erase-in-Some-clause-levels : goal.returns-in_ok-erase-in-Some-clause-levels
 returns-in_ok-erase-in-Some-clause-levels c =
-    length-without_element c.args.self.now c.erase.new.self c.args.level c.args.name.now c.args.index.now (returns-in_ok-erase-in-Some-clause-ok c)
+    length-without_element c.args.self.now c.erase.new.self c.args.frame c.args.name.now c.args.index.now (returns-in_ok-erase-in-Some-clause-ok c)

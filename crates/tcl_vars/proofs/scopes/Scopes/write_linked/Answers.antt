@@ -14,7 +14,7 @@ pub returns : goal.returns
 returns c =
     let own = c.place.ensures ∙ c.in_ok-end-in-Some.ensures in
     let linkless : link_of (content_at c.args.self.now (shown c.in-Some.found.place)) ≡ None
-    = led-end c.args.self.now (LinksDescend-frames c.args.self.now (subst FramesDescend c.self.view_is c.self.invariant.descending)) c.args.place.level (shown c.args.place) (shown c.in-Some.found.place) (le_refl _) c.in-Some.ensures.1 in
+    = led-end c.args.self.now (LinksDescend-frames c.args.self.now (subst FramesDescend c.self.view_is c.self.invariant.descending)) c.args.place.frame (shown c.args.place) (shown c.in-Some.found.place) (le_refl _) c.in-Some.ensures.1 in
     let set = with_text_at-led c.args.self.now (shown c.args.place) c.args.value (shown c.in-Some.found.place) (Ok c.put.new.self) c.in-Some.ensures.1
     (subst (λ place. Sets c.args.self.now place c.args.value (Ok c.put.new.self)) own
     (at_end c.args.self.now c.put.new.self (shown c.place.result) c.args.value c.in_ok-put.field-0

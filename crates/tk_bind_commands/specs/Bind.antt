@@ -6,7 +6,7 @@ use Rattle.tk_bind_commands.specs.Words.{or_sequence_fault, tag_or_error}
 use Rattle.tk_patterns.specs.declared.binding.Binding.{Binding}
 use Rattle.tk_patterns.specs.Own.{refuses, script_of, sequences_of, with_binding, without_binding}
 use Rattle.tk_sequences.specs.declared.sequence.Sequence.{Sequence}
-use Rattle.tk_sequences.specs.Reading.{parsed}
+use Rattle.tk_virtual.specs.Parse.{parsed}
 use Rattle.tk_sequences.specs.Writing.{canonical}
 use Rattle.tk_tree.specs.Own.{Tree}
 

@@ -3,7 +3,7 @@ ghost use Rattle.std.specs.Prelude.{◌≡◌, [], IfOk};
 ghost use Rattle.tcl_text.specs.Answers.{Gives, Refuses, bounded, fails};
 ghost use Rattle.tk_bind_commands.specs.Words as words_of;
 ghost use Rattle.tk_sequences.specs.FaultTexts as sequence_faults;
-ghost use Rattle.tk_sequences.specs.Reading.{parsed};
+ghost use Rattle.tk_virtual.specs.Parse.{parsed};
 ghost use Rattle.tk_tree.specs.Shared.{own_of};
 ghost use Rattle.tk_virtual.specs.FaultTexts as virtual_faults;
 

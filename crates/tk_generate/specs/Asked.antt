@@ -8,7 +8,7 @@ use Rattle.tk_sequences.specs.declared.fault.SequenceFault.TheVariants.{BadSeque
 use Rattle.tk_sequences.specs.declared.pattern.Pattern.{Pattern}
 use Rattle.tk_sequences.specs.declared.sequence.Sequence.{Sequence}
 use Rattle.tk_sequences.specs.declared.sequence.Sequence.TheVariants.{Virtual, Physical}
-use Rattle.tk_sequences.specs.Reading.{parsed}
+use Rattle.tk_virtual.specs.Parse.{parsed}
 use Rattle.tk_sequences.specs.Words.{is_single}
 use Rattle.tk_sequences.specs.Types.{is_key_type}
 

@@ -8,7 +8,7 @@ use Rattle.tk_patterns.specs.declared.binding.Binding.{Binding}
 use Rattle.tk_patterns.specs.Own.{refuses, with_binding, without_tag}
 use Rattle.tk_sequences.specs.declared.fault.SequenceFault.{SequenceFault}
 use Rattle.tk_sequences.specs.declared.sequence.Sequence.{Sequence}
-use Rattle.tk_sequences.specs.Reading.{parsed}
+use Rattle.tk_virtual.specs.Parse.{parsed}
 
 -- what `bind` makes of a class, a sequence and a script: nothing where the text is no sequence, or 4,096 bindings are there
 abbrev pub with_sequence : List ℕ → List ℕ → List Binding → Result Sequence SequenceFault → List Binding

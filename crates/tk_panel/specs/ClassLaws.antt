@@ -3,7 +3,7 @@ use Rattle.std.specs.Prelude.{◌≡◌, true, is_ok}
 use Rattle.std.specs.List.{list_all}
 use Rattle.tk_base.specs.declared.kind.Kind.{Kind}
 use Rattle.tk_options.specs.Rows.{row_of}
-use Rattle.tk_sequences.specs.Reading.{parsed}
+use Rattle.tk_virtual.specs.Parse.{parsed}
 
 -- each text that a class binds is a sequence
 abbrev pub ClassesBindSequences : Type 0

@@ -12,7 +12,7 @@ use Rattle.tk_sequences.specs.Grammar.{IsGap, HasNoClosing, BeginsWith, IsVirtua
 use Rattle.tk_sequences.specs.Laws.{SequencesAreRead, FaultsAreTold, IsOneOrOther, IsOneSequence, IsOneFault, IsNotBoth}
 use Rattle.tk_sequences.proofs.NameLemmas.{name_in_some, name_in_none}
 use Rattle.tk_sequences.specs.Patterns.{count_of}
-use Rattle.tk_sequences.specs.Reading.{OrFault, ◌>>=◌, Between, patterns_from, some_patterns, physical, begins_with_bracket, has_brackets, named_or_physical, parsed}
+use Rattle.tk_sequences.specs.Reading.{OrFault, ◌>>=◌, Between, patterns_from, some_patterns, physical, begins_with_bracket, has_brackets, named_or_physical, read_sequence}
 use Rattle.tk_sequences.specs.Words.{in_brackets, is_some_text, has_no_closing, is_name, middle, name_in}
 use Rattle.tk_sequences.specs.declared.fault.SequenceFault.{SequenceFault}
 use Rattle.tk_sequences.specs.declared.fault.SequenceFault.TheVariants.{BadSequence}
@@ -88,14 +88,14 @@ named_virtual text name h =
     (name_some name is, passes_each name (both_second (is_some_text name) (has_no_closing name) is), sym (name_is_text text name h))
 
 -- ── what a text gives, by what stands in it ──
-by_name : (text : List ℕ) (found : Option (List ℕ)) → name_in text ≡ found → parsed text ≡ named_or_physical text found
-unfolding parsed
+by_name : (text : List ℕ) (found : Option (List ℕ)) → name_in text ≡ found → read_sequence text ≡ named_or_physical text found
+unfolding read_sequence
 by_name text found is = ap (named_or_physical text) is
 
 no_name : (text : List ℕ) → has_brackets text ≡ false → name_in text ≡ None
 no_name text none = sym (name_in_none text (λ name named same. absurd (let has : has_brackets text ≡ true = ap has_brackets same in cc)))
 
-by_patterns : (text : List ℕ) (read : OrFault (List Pattern)) → has_brackets text ≡ false → patterns_from text Between 32 text ≡ read → parsed text ≡ (read >>= some_patterns text)
+by_patterns : (text : List ℕ) (read : OrFault (List Pattern)) → has_brackets text ≡ false → patterns_from text Between 32 text ≡ read → read_sequence text ≡ (read >>= some_patterns text)
 unfolding physical
 by_patterns text read none is =
     by_name text None (no_name text none)
@@ -107,7 +107,7 @@ some_are : (text : List ℕ) (patterns : List Pattern) → patterns ≢ [] → s
 some_are text [] some = absurd (some refl)
 some_are text (pattern ∷ patterns) some = refl
 
-sequence_read : {text : List ℕ} {sequence : Sequence} → IsSequence text sequence → parsed text ≡ Ok sequence
+sequence_read : {text : List ℕ} {sequence : Sequence} → IsSequence text sequence → read_sequence text ≡ Ok sequence
 sequence_read {text} (virtual name is) = by_name text (Some name) (virtual_named text name is)
 sequence_read {text} (a_physical patterns gap some few begins is) =
     by_patterns text (Ok (patterns ++ [])) (begins_black patterns text gap begins ∙ ap has_brackets (sym (append-nil gap)) ∙ gap_black gap [] is)
@@ -119,7 +119,7 @@ not_virtual : (text : List ℕ) (found : Option (List ℕ)) → name_in text ≡
 not_virtual text None is none = is
 not_virtual text (Some name) is none = absurd (none name (named_virtual text name is))
 
-fault_told : {text : List ℕ} {fault : SequenceFault} → HasFault text fault → parsed text ≡ Err fault
+fault_told : {text : List ℕ} {fault : SequenceFault} → HasFault text fault → read_sequence text ≡ Err fault
 fault_told {text} (opening opens none) =
     by_name text None (not_virtual text (name_in text) refl none)
     ∙ ap (λ (t : Bool). cond t (Err (BadSequence text)) (physical text)) (opening_told text opens)
@@ -161,14 +161,14 @@ pub each_is_either : IsOneOrOther
 each_is_either = λ text. either_by text (has_brackets text) refl
 
 -- ── what is read is of the grammar ──
-read_is : (text : List ℕ) (sequence : Sequence) → parsed text ≡ Ok sequence → IsEither text → IsSequence text sequence
+read_is : (text : List ℕ) (sequence : Sequence) → read_sequence text ≡ Ok sequence → IsEither text → IsSequence text sequence
 read_is text sequence h (inl (other, is)) =
     let k : Ok other ≡ Ok sequence = sym (sequence_read is) ∙ h in
     let same : other ≡ sequence = cc in
     subst (λ s. IsSequence text s) same is
 read_is text sequence h (inr (fault, is)) = absurd (let k : Err fault ≡ Ok sequence = sym (fault_told is) ∙ h in cc)
 
-told_is : (text : List ℕ) (fault : SequenceFault) → parsed text ≡ Err fault → IsEither text → HasFault text fault
+told_is : (text : List ℕ) (fault : SequenceFault) → read_sequence text ≡ Err fault → IsEither text → HasFault text fault
 told_is text fault h (inl (sequence, is)) = absurd (let k : Ok sequence ≡ Err fault = sym (sequence_read is) ∙ h in cc)
 told_is text fault h (inr (other, is)) =
     let k : Err other ≡ Err fault = sym (fault_told is) ∙ h in

@@ -7,6 +7,7 @@ pub mod Grammars
 pub mod HeldLemmas
 pub mod KnownWords
 pub mod NameLemmas
+pub mod Parses
 pub mod PatternsCut
 pub mod PatternsRead
 pub mod PieceLemmas

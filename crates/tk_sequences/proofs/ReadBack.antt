@@ -8,7 +8,7 @@ use Rattle.tk_sequences.proofs.WordLemmas.{is_inside, both_first, both_second, i
 use Rattle.tk_sequences.proofs.WrittenLemmas.{inner_of, pattern_is, inner_inside, patterns_back}
 use Rattle.tk_sequences.proofs.NameLemmas.{name_in_none}
 use Rattle.tk_sequences.specs.Patterns.{count_of}
-use Rattle.tk_sequences.specs.Reading.{OrFault, ◌>>=◌, Between, patterns_from, some_patterns, physical, begins_with_bracket, has_brackets, named_or_physical, parsed}
+use Rattle.tk_sequences.specs.Reading.{OrFault, ◌>>=◌, Between, patterns_from, some_patterns, physical, begins_with_bracket, has_brackets, named_or_physical, read_sequence}
 use Rattle.tk_sequences.specs.Words.{in_brackets, is_name, middle, name_in}
 use Rattle.tk_sequences.specs.Writing.{patterns_written, canonical}
 use Rattle.tk_sequences.specs.declared.fault.SequenceFault.TheVariants.{BadSequence}
@@ -46,8 +46,8 @@ no_name inner rest name h same =
     absurd (cc (opens, begins_within inner rest h))
 
 -- ── physical sequences ──
-patterns_again : (pattern : Pattern) (patterns : List Pattern) → AllRead (pattern ∷ patterns) → count_of (pattern ∷ patterns) ≤ 32 → parsed (patterns_written (pattern ∷ patterns)) ≡ Ok (Physical (pattern ∷ patterns))
-unfolding parsed physical
+patterns_again : (pattern : Pattern) (patterns : List Pattern) → AllRead (pattern ∷ patterns) → count_of (pattern ∷ patterns) ≤ 32 → read_sequence (patterns_written (pattern ∷ patterns)) ≡ Ok (Physical (pattern ∷ patterns))
+unfolding read_sequence physical
 patterns_again pattern patterns reads few =
     let text = patterns_written (pattern ∷ patterns) in
     let none : None ≡ name_in text = name_in_none text (λ name named same. no_name (inner_of pattern) (patterns_written patterns) name (inner_inside pattern reads.0) (sym (pattern_is pattern (patterns_written patterns)) ∙ same)) in
@@ -55,14 +55,14 @@ patterns_again pattern patterns reads few =
     ∙ ap (λ (t : Bool). cond t (Err (BadSequence text)) (patterns_from text Between 32 text >>= some_patterns text)) (no_brackets (pattern ∷ patterns) reads)
     ∙ ap (λ (read : OrFault (List Pattern)). read >>= some_patterns text) (patterns_back text 32 (pattern ∷ patterns) reads few)
 
-some_back : (whole : List ℕ) (patterns : List Pattern) (sequence : Sequence) → AreRead 32 patterns → some_patterns whole patterns ≡ Ok sequence → parsed (canonical sequence) ≡ Ok sequence
+some_back : (whole : List ℕ) (patterns : List Pattern) (sequence : Sequence) → AreRead 32 patterns → some_patterns whole patterns ≡ Ok sequence → read_sequence (canonical sequence) ≡ Ok sequence
 unfolding canonical
 some_back whole [] sequence read h = absurd (cc)
 some_back whole (pattern ∷ patterns) sequence read h =
     let same : Physical (pattern ∷ patterns) ≡ sequence = cc in
-    subst (λ s. parsed (canonical s) ≡ Ok s) same (patterns_again pattern patterns read.each read.few)
+    subst (λ s. read_sequence (canonical s) ≡ Ok s) same (patterns_again pattern patterns read.each read.few)
 
-physical_back : (text : List ℕ) (sequence : Sequence) → physical text ≡ Ok sequence → parsed (canonical sequence) ≡ Ok sequence
+physical_back : (text : List ℕ) (sequence : Sequence) → physical text ≡ Ok sequence → read_sequence (canonical sequence) ≡ Ok sequence
 unfolding physical
 physical_back text sequence h =
     then_by (patterns_from text Between 32 text) (some_patterns text) sequence h (λ patterns read h. some_back text patterns sequence (patterns_read text Between 32 text patterns read) h)
@@ -77,19 +77,19 @@ name_is_text text name h =
     ap in_brackets (sym same) ∙ sym ((bytes_eq-Decides text (in_brackets (middle text))).0 (both_second (is_name (middle text)) (bytes_eq text (in_brackets (middle text))) t)))
     (λ t h. absurd (cc))
 
-back_by : (text : List ℕ) (found : Option (List ℕ)) (sequence : Sequence) → name_in text ≡ found → parsed text ≡ Ok sequence → named_or_physical text found ≡ Ok sequence → parsed (canonical sequence) ≡ Ok sequence
+back_by : (text : List ℕ) (found : Option (List ℕ)) (sequence : Sequence) → name_in text ≡ found → read_sequence text ≡ Ok sequence → named_or_physical text found ≡ Ok sequence → read_sequence (canonical sequence) ≡ Ok sequence
 unfolding canonical
 back_by text (Some name) sequence is read h =
     let same : Virtual name ≡ sequence = cc in
-    ap (λ s. parsed (canonical s)) (sym same) ∙ ap parsed (name_is_text text name is) ∙ read
+    ap (λ s. read_sequence (canonical s)) (sym same) ∙ ap read_sequence (name_is_text text name is) ∙ read
 back_by text None sequence is read h =
     if_by (has_brackets text) (Err (BadSequence text)) (physical text) (Ok sequence) h (λ t h. absurd (cc)) (λ t h. physical_back text sequence h)
 
-pub read_back : (text : List ℕ) (sequence : Sequence) → parsed text ≡ Ok sequence → parsed (canonical sequence) ≡ Ok sequence
-unfolding parsed
+pub read_back : (text : List ℕ) (sequence : Sequence) → read_sequence text ≡ Ok sequence → read_sequence (canonical sequence) ≡ Ok sequence
+unfolding read_sequence
 read_back text sequence h = back_by text (name_in text) sequence refl h h
 
-pub forms_differ : (text other : List ℕ) (sequence another : Sequence) → parsed text ≡ Ok sequence → parsed other ≡ Ok another → canonical sequence ≡ canonical another → sequence ≡ another
+pub forms_differ : (text other : List ℕ) (sequence another : Sequence) → read_sequence text ≡ Ok sequence → read_sequence other ≡ Ok another → canonical sequence ≡ canonical another → sequence ≡ another
 forms_differ text other sequence another read read_too same =
-    let k : Ok sequence ≡ Ok another = sym (read_back text sequence read) ∙ ap parsed same ∙ read_back other another read_too in
+    let k : Ok sequence ≡ Ok another = sym (read_back text sequence read) ∙ ap read_sequence same ∙ read_back other another read_too in
     cc

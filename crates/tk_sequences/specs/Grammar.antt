@@ -1,7 +1,7 @@
 -- Meaning. The grammar of event sequences (bind(n), EVENT PATTERNS), as a relation between a whole text and the sequence that it is, or its fault. It
 -- cuts texts into white space, patterns and fields, and says nothing of how a text is read. The words are those of the tables of `tk_sequences` and
 -- `tk_base`.
-use Rattle.std.specs.Prelude.{◌≡◌, ◌≢◌, ◌⊎◌, ℕ, ◌<◌, ◌≤◌, true, false, bit_or, List, [], ◌∷◌, ◌++◌, Option, Some, None, codes}
+use Rattle.std.specs.Prelude.{◌≡◌, ◌≢◌, ◌⊎◌, ℕ, ◌<◌, ◌≤◌, true, false, bit_or, List, [], ◌∷◌, ◌++◌, Option, Some, None, Result, Ok, Err, codes}
 use Rattle.tcl_text.specs.Backslash.{is_white}
 use Rattle.tcl_text.specs.Bytes.{greater_sign, less_sign, minus_sign, space}
 use Rattle.tk_base.specs.Names.{key_named, key_of_character}
@@ -207,3 +207,8 @@ pub data HasFault (text : List ℕ) : SequenceFault → Type 0 where
       IsFaulty text rest fault → HasFault text fault
   many : (patterns : List Pattern) (rest : List ℕ) → ¬ HasOpening text → most_events < count_of patterns → BeginsWith text patterns rest →
       HasFault text (BadSequence text)
+
+-- What the text is: a sequence, or none, with this fault. Each text is one of both, and in one way alone.
+abbrev pub IsSequenceParse : List ℕ → Result Sequence SequenceFault → Type 0
+IsSequenceParse text (Ok sequence) = IsSequence text sequence
+IsSequenceParse text (Err fault) = HasFault text fault

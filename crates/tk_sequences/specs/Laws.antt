@@ -1,17 +1,17 @@
 -- Meaning. What the laws of the grammar say.
 use Rattle.std.specs.Prelude.{◌≡◌, ◌↔◌, ◌⊎◌, ℕ, List, Ok, Err}
 use Rattle.tk_sequences.specs.Grammar.{IsSequence, HasFault}
-use Rattle.tk_sequences.specs.Reading.{parsed}
+use Rattle.tk_sequences.specs.Reading.{read_sequence}
 use Rattle.tk_sequences.specs.declared.fault.SequenceFault.{SequenceFault}
 use Rattle.tk_sequences.specs.declared.sequence.Sequence.{Sequence}
 
 -- the sequences that are read are those of the grammar
 abbrev pub SequencesAreRead : Type 0
-SequencesAreRead = (text : List ℕ) (sequence : Sequence) → IsSequence text sequence ↔ (parsed text ≡ Ok sequence)
+SequencesAreRead = (text : List ℕ) (sequence : Sequence) → IsSequence text sequence ↔ (read_sequence text ≡ Ok sequence)
 
 -- the faults that are told are those of the grammar
 abbrev pub FaultsAreTold : Type 0
-FaultsAreTold = (text : List ℕ) (fault : SequenceFault) → HasFault text fault ↔ (parsed text ≡ Err fault)
+FaultsAreTold = (text : List ℕ) (fault : SequenceFault) → HasFault text fault ↔ (read_sequence text ≡ Err fault)
 
 -- each text is a sequence or has a fault
 abbrev pub IsOneOrOther : Type 0

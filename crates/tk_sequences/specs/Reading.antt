@@ -214,5 +214,5 @@ named_or_physical text (Some name) = Ok (Virtual name)
 named_or_physical text None = if has_brackets text then Err (BadSequence text) else physical text
 
 -- a virtual event alone; or, where no `<<` stands in the text, patterns
-unfoldable pub parsed : List ℕ → OrFault Sequence
-parsed text = named_or_physical text (name_in text)
+unfoldable pub read_sequence : List ℕ → OrFault Sequence
+read_sequence text = named_or_physical text (name_in text)

@@ -1,18 +1,18 @@
 //! Laws of sequences, as contracts of functions that do nothing.
 ghost use Rattle.std.specs.Prelude.{◌≡◌, ℕ, List, Ok};
 ghost use Rattle.tk_sequences.specs.Laws.{SequencesAreRead, FaultsAreTold, IsOneOrOther, IsOneSequence, IsOneFault, IsNotBoth};
-ghost use Rattle.tk_sequences.specs.Reading.{parsed};
+ghost use Rattle.tk_sequences.specs.Reading.{read_sequence};
 ghost use Rattle.tk_sequences.specs.Writing.{canonical};
 ghost use Rattle.tk_sequences.specs.declared.sequence.Sequence.{Sequence};
 
 /// The canonical form of what was read is read as the same sequence.
 pub fn canonical_form_is_read_back()
-    ensures { (text : List ℕ) (sequence : Sequence) → parsed text ≡ Ok sequence → parsed (canonical sequence) ≡ Ok sequence }
+    ensures { (text : List ℕ) (sequence : Sequence) → read_sequence text ≡ Ok sequence → read_sequence (canonical sequence) ≡ Ok sequence }
 {}
 
 /// Sequences that were read differ in their canonical forms too.
 pub fn canonical_forms_differ()
-    ensures { (text other : List ℕ) (sequence another : Sequence) → parsed text ≡ Ok sequence → parsed other ≡ Ok another
+    ensures { (text other : List ℕ) (sequence another : Sequence) → read_sequence text ≡ Ok sequence → read_sequence other ≡ Ok another
         → canonical sequence ≡ canonical another → sequence ≡ another }
 {}
 

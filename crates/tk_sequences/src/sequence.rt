@@ -1,6 +1,6 @@
 ghost use Rattle.std.specs.Prelude.{◌≡◌, ◌≢◌, ◌≤◌, IfOk, IfErr, Ok, Err, None};
 ghost use Rattle.tk_sequences.specs.Patterns.{count_of, most_events};
-ghost use Rattle.tk_sequences.specs.Reading.{begins_with_bracket, has_brackets, named_or_physical, parsed, some_patterns};
+ghost use Rattle.tk_sequences.specs.Reading.{begins_with_bracket, has_brackets, named_or_physical, read_sequence, some_patterns};
 ghost use Rattle.tk_sequences.specs.Writing.{canonical};
 
 use crate::fault::SequenceFault;
@@ -24,10 +24,10 @@ pub enum Sequence {
 impl Sequence {
     /// The sequence that a text is (bind(n), EVENT PATTERNS). `BadSequence` (29) with the text where it is none, and `BadKeysym` (30)
     /// with the word where, from the left, the first fault is a word in the place of a type or a key that is neither.
-    #[tactic(auto, unfolding(crate::specs::Reading::parsed))]
+    #[tactic(auto, unfolding(crate::specs::Reading::read_sequence))]
     pub fn parse(alloc: Global, text: &Text) -> Result<Sequence, SequenceFault>
-        ensures ok { IfOk result (λ sequence. parsed text.now ≡ Ok sequence) }
-        ensures refused { IfErr result (λ fault. fault ≢ SequenceFault.NoMemory → parsed text.now ≡ Err fault) }
+        ensures ok { IfOk result (λ sequence. read_sequence text.now ≡ Ok sequence) }
+        ensures refused { IfErr result (λ fault. fault ≢ SequenceFault.NoMemory → read_sequence text.now ≡ Err fault) }
     {
         match VirtualName::parse(alloc, text)? {
             Some(name) => Ok(Sequence::Virtual(name)),

@@ -2,5 +2,6 @@
 pub mod Classes
 pub mod FaultTexts
 pub mod Named
+pub mod Parse
 pub mod Shared
 pub mod Virtual

@@ -2,7 +2,7 @@
 use Rattle.std.specs.Prelude.{ℕ, Bool, ◌&&◌, not, nat_le, if◌then◌else◌, List, [], ◌∷◌, ◌++◌, length, map, filter, fold, Option, Some, None, Result, Ok, Err}
 use Rattle.std.specs.List.{list_any}
 use Rattle.std.specs.Str.{bytes_eq}
-use Rattle.tk_sequences.specs.Reading.{parsed}
+use Rattle.tk_virtual.specs.Parse.{parsed}
 use Rattle.tk_sequences.specs.Words.{in_brackets, name_in}
 use Rattle.tk_sequences.specs.Writing.{canonical}
 use Rattle.tk_sequences.specs.declared.fault.SequenceFault.{SequenceFault}

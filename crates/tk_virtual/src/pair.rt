@@ -1,6 +1,6 @@
 //! One pair.
 ghost use Rattle.std.specs.Prelude.{◌≡◌, ◌≢◌, IfOk, IfErr, Ok, Err};
-ghost use Rattle.tk_sequences.specs.Reading.{parsed};
+ghost use Rattle.tk_virtual.specs.Parse.{parsed};
 ghost use Rattle.tk_sequences.specs.Words.{name_in};
 ghost use Rattle.tk_virtual.specs.Virtual.{has_name, is_same, name_or_fault, not_virtual, pair_meant, pair_of};
 

@@ -27,13 +27,13 @@ use Rattle.tcl_control.specs.Source.{script_of}
 use Rattle.tcl_control.specs.Texts.{element_name}
 use Rattle.tcl_control.specs.Loops.{Tested, More, NoMore, Fails, items_tested}
 use Rattle.tcl_interp.proofs.TreeValues.{tree_runs}
-use Rattle.tcl_interp.specs.Evaluation.{State, Outcome, Ended, OutOfSteps, seen_level, and_then, on_normal, stepped, on_read, words_of, on_words, index_pieces, element_read, on_index, piece_meaning, pieces_meaning, index_depth, element_meaning, words_meaning, called, commands_meaning}
+use Rattle.tcl_interp.specs.Evaluation.{State, Outcome, Ended, OutOfSteps, seen_frame, and_then, on_normal, stepped, on_read, words_of, on_words, index_pieces, element_read, on_index, piece_meaning, pieces_meaning, element_within, element_meaning, words_meaning, called, commands_meaning}
 use Rattle.tcl_interp.specs.Plans.{with_first_levels, others, levels_back, procedure_ended, caught, on_tested, loop_ended, after_body, after_next, run_at, next_iteration, test_meaning, iteration_meaning, iterations_meaning, loop_meaning, plan_meaning}
 use Rattle.tcl_interp.specs.Expressions.{with_truth, on_value, if_holds, tree_meaning, expression_meaning, condition_meaning, otherwise_meaning, choices_meaning}
 use Rattle.tcl_interp.specs.Asked.{run_meaning}
 use Rattle.tcl_interp.specs.ScriptLaws.{AgreesRun, AgreesWhere, CommandsAgree, CommandsKeep, Kept, KeepsRun, ScriptsAgree, ScriptsAgreeWhere}
 use Rattle.tcl_interp.specs.Scripts.{CommandMeaning, by_call, call_meaning, on_parsed, scripts_by}
-use Rattle.tcl_interp.proofs.Kept.{KeepsElement, kept_call, kept_called, kept_element, kept_expression, kept_scripts, kept_words}
+use Rattle.tcl_interp.proofs.Kept.{KeepsElement, kept_call, kept_called, kept_element, kept_element_within, kept_expression, kept_scripts, kept_words}
 
 module _ {S : Type 0} (P : S → Type 0) where
   -- ── what comes behind the same is the same ──
@@ -121,7 +121,7 @@ module _ {S : Type 0} (P : S → Type 0) where
     module _ (element more : List ℕ → List ℕ → State S → Outcome S) (element_same : (name index : List ℕ) (state : State S) → P state.shows → element name index state ≡ more name index state) (element_keeps : KeepsElement P element) where
       same_piece : (piece : Piece) (state : State S) (f g : State S → List ℕ → Outcome S) → P state.shows → ((state' : State S) (text : List ℕ) → P state'.shows → f state' text ≡ g state' text) → piece_meaning run element piece state f ≡ piece_meaning other more piece state g
       same_piece (Literal text) state f g w h = h state text w
-      same_piece (Variable name) state f g w h = same_on_read name state f g (variable_in state.store (seen_level state) name) (λ text. h state text w)
+      same_piece (Variable name) state f g w h = same_on_read name state f g (variable_in state.store (seen_frame state) name) (λ text. h state text w)
       same_piece (Element name index) state f g w h =
           same_and_then (element name index state) (more name index state) (on_normal f) (on_normal g) (element_same name index state w) (element_keeps name index state w) (same_on_normal f g h)
       same_piece (Bracket script) state f g w h = same_script script (on_normal f) (on_normal g) state w (same_on_normal f g h)
@@ -132,21 +132,24 @@ module _ {S : Type 0} (P : S → Type 0) where
           same_piece piece state _ _ w (λ state' text w'.
           same_cond (nat_le (length (so_far ++ text)) 65536) _ _ _ (same_pieces pieces (so_far ++ text) state' f g w' h))
 
-    same_element : (depth : ℕ) (name index : List ℕ) (state : State S) → P state.shows → element_meaning run depth name index state ≡ element_meaning other depth name index state
-    same_element zero name index state w = refl
-    same_element (suc depth) name index state w =
-        same_on_index state (λ ps. pieces_meaning run (element_meaning run depth) ps [] state (element_read name)) (λ ps. pieces_meaning other (element_meaning other depth) ps [] state (element_read name)) (index_pieces index)
+    same_element_within : (depth : ℕ) (name index : List ℕ) (state : State S) → P state.shows → element_within run depth name index state ≡ element_within other depth name index state
+    same_element_within zero name index state w = refl
+    same_element_within (suc depth) name index state w =
+        same_on_index state (λ ps. pieces_meaning run (element_within run depth) ps [] state (element_read name)) (λ ps. pieces_meaning other (element_within other depth) ps [] state (element_read name)) (index_pieces index)
         (λ ps.
-        same_pieces (element_meaning run depth) (element_meaning other depth) (same_element depth) (kept_element P run keeps depth) ps [] state (element_read name) (element_read name) w
+        same_pieces (element_within run depth) (element_within other depth) (same_element_within depth) (kept_element_within P run keeps depth) ps [] state (element_read name) (element_read name) w
         (λ state' text w'. refl))
+
+    same_element : (name index : List ℕ) (state : State S) → P state.shows → element_meaning run name index state ≡ element_meaning other name index state
+    same_element name index state w = same_element_within (suc (length index)) name index state w
 
     -- ── expressions ──
 
     same_run : (r : Evaluating) (state : State S) → P state.shows → run_meaning run r state ≡ run_meaning other r state
     same_run (AsksVariable name go) state w =
-        same_on_read name state (λ state' value. run_meaning run (go value) state') (λ state' value. run_meaning other (go value) state') (variable_in state.store (seen_level state) name) (λ value. same_run (go value) state w)
+        same_on_read name state (λ state' value. run_meaning run (go value) state') (λ state' value. run_meaning other (go value) state') (variable_in state.store (seen_frame state) name) (λ value. same_run (go value) state w)
     same_run (AsksElement array index go) state w =
-        same_on_read (element_name array index) state (λ state' value. run_meaning run (go value) state') (λ state' value. run_meaning other (go value) state') (element_in state.store (seen_level state) array index)
+        same_on_read (element_name array index) state (λ state' value. run_meaning run (go value) state') (λ state' value. run_meaning other (go value) state') (element_in state.store (seen_frame state) array index)
         (λ value. same_run (go value) state w)
     same_run (AsksCommand script go) state w =
         same_script script (on_normal (λ state' value. run_meaning run (go value) state')) (on_normal (λ state' value. run_meaning other (go value) state')) state w
@@ -190,7 +193,7 @@ module _ {S : Type 0} (P : S → Type 0) where
         same_condition condition (if_holds (body (Holds condition)) loop_ended) (if_holds (more (Holds condition)) loop_ended) state w
         (same_if (body (Holds condition)) loop_ended (more (Holds condition)) loop_ended (h (Holds condition)) (λ state' w'. refl))
     same_test (Items groups) body more state w h =
-        same_on_tested state (λ left. body (Items left)) (λ left. more (Items left)) (items_tested (seen_level state) groups state.store) w (λ left state' w'. h (Items left) state' w')
+        same_on_tested state (λ left. body (Items left)) (λ left. more (Items left)) (items_tested (seen_frame state) groups state.store) w (λ left state' w'. h (Items left) state' w')
 
     same_iteration : (looping : Loop) (again more : State S → Outcome S) → ((state : State S) → P state.shows → again state ≡ more state) → (state : State S) → P state.shows → iteration_meaning run looping again state ≡ iteration_meaning other looping more state
     same_iteration looping again more h state w =
@@ -224,7 +227,7 @@ module _ {S : Type 0} (P : S → Type 0) where
       same_words : (words : List Word) (whole : List (List ℕ)) (state : State S) (f g : State S → List (List ℕ) → Outcome S) → P state.shows → ((state' : State S) (all : List (List ℕ)) → P state'.shows → f state' all ≡ g state' all) → words_meaning run call words whole state f ≡ words_meaning other another words whole state g
       same_words [] whole state f g w h = h state whole w
       same_words (word ∷ words) whole state f g w h =
-          same_pieces (element_meaning run index_depth) (element_meaning other index_depth) (same_element index_depth) (kept_element P run keeps index_depth) word.pieces [] state _ _ w (λ state' text w'.
+          same_pieces (element_meaning run) (element_meaning other) same_element (kept_element P run keeps) word.pieces [] state _ _ w (λ state' text w'.
           same_on_words state' (λ state'' more. words_meaning run call words (whole ++ more) state'' f) (λ state'' more. words_meaning other another words (whole ++ more) state'' g) (words_of word.expand text)
           (λ more. same_words words (whole ++ more) state' f g w' h))
 

@@ -30,7 +30,7 @@ use Rattle.tcl_interp.proofs.TreeValues.{tree_runs}
 use Rattle.tcl_interp.specs.declared.tasks.Act.{Act}
 use Rattle.tcl_interp.specs.declared.tasks.Act.TheVariants.{Done, Step, Run, Unknown}
 use Rattle.tcl_interp.specs.Outside.{Outside, Falls, RunsBelow}
-use Rattle.tcl_interp.specs.Evaluation.{State, Outcome, Ended, OutOfSteps, seen_level, and_then, on_normal, stepped, on_read, words_of, on_words, index_pieces, element_read, on_index, piece_meaning, pieces_meaning, index_depth, element_meaning, words_meaning, called, commands_meaning}
+use Rattle.tcl_interp.specs.Evaluation.{State, Outcome, Ended, OutOfSteps, seen_frame, and_then, on_normal, stepped, on_read, words_of, on_words, index_pieces, element_read, on_index, piece_meaning, pieces_meaning, element_within, element_meaning, words_meaning, called, commands_meaning}
 use Rattle.tcl_interp.specs.Plans.{with_first_levels, others, levels_back, procedure_ended, caught, on_tested, loop_ended, after_body, after_next, run_at, next_iteration, test_meaning, iteration_meaning, iterations_meaning, loop_meaning, plan_meaning}
 use Rattle.tcl_interp.specs.Expressions.{with_truth, on_value, if_holds, tree_meaning, expression_meaning, condition_meaning, otherwise_meaning, choices_meaning}
 use Rattle.tcl_interp.specs.Asked.{value_ended, run_meaning}
@@ -84,7 +84,7 @@ BoundedElement {S} element = (n : ℕ) (name index : List ℕ) (state : State S)
 module _ {S : Type 0} (run : List ℕ → State S → Outcome S) (element : List ℕ → List ℕ → State S → Outcome S) (run_falls : Bounded run) (element_falls : BoundedElement element) where
   pub within_piece : (n : ℕ) (piece : Piece) (state : State S) (f : State S → List ℕ → Outcome S) → state.steps ≤ n → ((state' : State S) (text : List ℕ) → state'.steps ≤ n → Within n (f state' text)) → Within n (piece_meaning run element piece state f)
   within_piece n (Literal text) state f w h = h state text w
-  within_piece n (Variable name) state f w h = within_on_read n name state f (variable_in state.store (seen_level state) name) w (λ text. h state text w)
+  within_piece n (Variable name) state f w h = within_on_read n name state f (variable_in state.store (seen_frame state) name) w (λ text. h state text w)
   within_piece n (Element name index) state f w h = within_and_then n (element name index state) (on_normal f) (element_falls n name index state w) (within_on_normal n f h)
   within_piece n (Bracket script) state f w h = within_and_then n (run script state) (on_normal f) (run_falls n script state w) (within_on_normal n f h)
 
@@ -94,18 +94,21 @@ module _ {S : Type 0} (run : List ℕ → State S → Outcome S) (element : List
       within_piece n piece state _ w (λ state' text w'.
       within_cond n (nat_le (length (so_far ++ text)) 65536) _ _ (within_pieces n pieces (so_far ++ text) state' f w' h) w')
 
-pub within_element : {S : Type 0} (run : List ℕ → State S → Outcome S) → Bounded run → (depth : ℕ) → BoundedElement (element_meaning run depth)
-within_element run run_falls zero n name index state w = w
-within_element run run_falls (suc depth) n name index state w =
-    within_on_index n state (λ ps. pieces_meaning run (element_meaning run depth) ps [] state (element_read name)) (index_pieces index) w (λ ps.
-    within_pieces run (element_meaning run depth) run_falls (within_element run run_falls depth) n ps [] state (element_read name) w
-    (λ state' text w'. within_on_read n (element_name name text) state' (λ state'' value. Ended state'' Normal value) (element_in state'.store (seen_level state') name text) w' (λ value. w')))
+pub within_element_within : {S : Type 0} (run : List ℕ → State S → Outcome S) → Bounded run → (depth : ℕ) → BoundedElement (element_within run depth)
+within_element_within run run_falls zero n name index state w = w
+within_element_within run run_falls (suc depth) n name index state w =
+    within_on_index n state (λ ps. pieces_meaning run (element_within run depth) ps [] state (element_read name)) (index_pieces index) w (λ ps.
+    within_pieces run (element_within run depth) run_falls (within_element_within run run_falls depth) n ps [] state (element_read name) w
+    (λ state' text w'. within_on_read n (element_name name text) state' (λ state'' value. Ended state'' Normal value) (element_in state'.store (seen_frame state') name text) w' (λ value. w')))
+
+pub within_element : {S : Type 0} (run : List ℕ → State S → Outcome S) → Bounded run → BoundedElement (element_meaning run)
+within_element run run_falls n name index state w = within_element_within run run_falls (suc (length index)) n name index state w
 
 module _ {S : Type 0} (run : List ℕ → State S → Outcome S) (call : List (List ℕ) → State S → Outcome S) (run_falls : Bounded run) where
   pub within_words : (n : ℕ) (words : List Word) (whole : List (List ℕ)) (state : State S) (f : State S → List (List ℕ) → Outcome S) → state.steps ≤ n → ((state' : State S) (all : List (List ℕ)) → state'.steps ≤ n → Within n (f state' all)) → Within n (words_meaning run call words whole state f)
   within_words n [] whole state f w h = h state whole w
   within_words n (word ∷ words) whole state f w h =
-      within_pieces run (element_meaning run index_depth) run_falls (within_element run run_falls index_depth) n word.pieces [] state _ w (λ state' text w'.
+      within_pieces run (element_meaning run) run_falls (within_element run run_falls) n word.pieces [] state _ w (λ state' text w'.
       within_on_words n state' (λ state'' more. words_meaning run call words (whole ++ more) state'' f) (words_of word.expand text) w' (λ more. within_words n words (whole ++ more) state' f w' h))
 
   pub within_called : Bounded call → (n : ℕ) (state : State S) (words : List (List ℕ)) → state.steps ≤ n → Within n (called run call state words)
@@ -154,9 +157,9 @@ within_value_ended n state (Err fault) w = w
 
 module _ {S : Type 0} (run : List ℕ → State S → Outcome S) (run_falls : Bounded run) where
   pub within_run : (n : ℕ) (r : Evaluating) (state : State S) → state.steps ≤ n → Within n (run_meaning run r state)
-  within_run n (AsksVariable name go) state w = within_on_read n name state (λ state' value. run_meaning run (go value) state') (variable_in state.store (seen_level state) name) w (λ value. within_run n (go value) state w)
+  within_run n (AsksVariable name go) state w = within_on_read n name state (λ state' value. run_meaning run (go value) state') (variable_in state.store (seen_frame state) name) w (λ value. within_run n (go value) state w)
   within_run n (AsksElement array index go) state w =
-      within_on_read n (element_name array index) state (λ state' value. run_meaning run (go value) state') (element_in state.store (seen_level state) array index) w (λ value. within_run n (go value) state w)
+      within_on_read n (element_name array index) state (λ state' value. run_meaning run (go value) state') (element_in state.store (seen_frame state) array index) w (λ value. within_run n (go value) state w)
   within_run n (AsksCommand script go) state w =
       within_and_then n (run script state) (on_normal (λ state' value. run_meaning run (go value) state')) (run_falls n script state w)
       (within_on_normal n (λ state' value. run_meaning run (go value) state') (λ state' value w'. within_run n (go value) state' w'))
@@ -192,7 +195,7 @@ module _ {S : Type 0} (run : List ℕ → State S → Outcome S) (run_falls : Bo
 
   within_test : (n : ℕ) (test : Test) (body : Test → State S → Outcome S) (state : State S) → state.steps ≤ n → ((after : Test) (state' : State S) → state'.steps ≤ n → Within n (body after state')) → Within n (test_meaning run test body state)
   within_test n (Holds condition) body state w h = within_condition n condition _ state w (within_if n (body (Holds condition)) loop_ended (h (Holds condition)) (λ state' w'. w'))
-  within_test n (Items groups) body state w h = within_on_tested n state _ (items_tested (seen_level state) groups state.store) w (λ left state' w'. h (Items left) state' w')
+  within_test n (Items groups) body state w h = within_on_tested n state _ (items_tested (seen_frame state) groups state.store) w (λ left state' w'. h (Items left) state' w')
 
   pub within_iteration : (n : ℕ) (looping : Loop) (again : State S → Outcome S) → ((state : State S) → state.steps ≤ n → Within n (again state)) → (state : State S) → state.steps ≤ n → Within n (iteration_meaning run looping again state)
   within_iteration n looping again h state w =
@@ -272,7 +275,7 @@ module _ {S : Type 0} (run : List ℕ → State S → Outcome S) (run_falls : Bo
       and_then_same state.steps (expression_meaning run condition state) (on_value (if_holds (f (Holds condition)) loop_ended)) (on_value (if_holds (g (Holds condition)) loop_ended)) (within_expression run run_falls state.steps condition state (omega arith))
       (λ state' code text le. on_value_same (if_holds (f (Holds condition)) loop_ended) (if_holds (g (Holds condition)) loop_ended) state' code text
       (λ holds. if_same (f (Holds condition)) (g (Holds condition)) loop_ended state' holds (h (Holds condition) state' le)))
-  test_same (Items groups) f g state h = on_tested_same state _ _ (items_tested (seen_level state) groups state.store) (λ left state' le. h (Items left) state' le)
+  test_same (Items groups) f g state h = on_tested_same state _ _ (items_tested (seen_frame state) groups state.store) (λ left state' le. h (Items left) state' le)
 
   pub next_same : (next : Option (List ℕ)) (f g : State S → Outcome S) (state : State S) → ((state' : State S) → state'.steps ≤ state.steps → f state' ≡ g state') → next_iteration run next f state ≡ next_iteration run next g state
   next_same None f g state h = h state (omega arith)

@@ -11,13 +11,13 @@ use Rattle.tcl_control.specs.Texts.{element_name, limit_text}
 use Rattle.tcl_commands.specs.declared.branches.Branch.{Branch}
 use Rattle.tcl_expr.specs.Resuming.{evaluation_told}
 use Rattle.tcl_interp.specs.Outside.{Outside}
-use Rattle.tcl_interp.specs.Evaluation.{State, Outcome, Ended, seen_level, words_of, element_read, index_depth, element_meaning, with_joined, called}
+use Rattle.tcl_interp.specs.Evaluation.{State, Outcome, Ended, seen_frame, words_of, element_read, element_within, element_meaning, with_joined, called}
 use Rattle.tcl_interp.specs.Expressions.{if_holds, choices_meaning}
 use Rattle.tcl_interp.specs.Plans.{loop_ended, next_iteration}
 use Rattle.tcl_interp.specs.Acts.{script_meaning, after_step, outside_meaning}
 use Rattle.tcl_interp.specs.Scripts.{out_of_global, at_global, call_meaning}
 use Rattle.tcl_interp.specs.Finish.{Wording, Indexing, Doing, Begins, GoesOn, Indexes, Evaluates, Calls, Tests, Steps, Resumes, Ends, Waiting, ForCommand, ForPart, ForIndex, ForValue, ForTest, ForChoice, ForBody, ForNext, ForStart, ForCatch, ForLevels, ForProcedure, ForScript, ForAll, RestToDo, Idle, Running, Spent, Broken, script_rest, words_rest, word_done, word_rest, index_rest, loop_rest, choice_rest, iteration_rest, doing_meaning, waiting_meaning, waits_meaning, finish}
-use Rattle.tcl_interp.proofs.Bounds.{Bounded, Within, within_after_body, within_after_next, within_after_step, within_and_then, within_call, within_choices, within_commands, within_called, within_cond, within_element, within_if, within_next, within_on_normal, within_on_read, within_on_value, within_on_words, within_otherwise, within_pieces, within_run, within_script, within_stepped, within_task, within_iteration, within_iterations, within_words}
+use Rattle.tcl_interp.proofs.Bounds.{Bounded, Within, within_after_body, within_after_next, within_after_step, within_and_then, within_call, within_choices, within_commands, within_called, within_cond, within_element, within_element_within, within_if, within_next, within_on_normal, within_on_read, within_on_value, within_on_words, within_otherwise, within_pieces, within_run, within_script, within_stepped, within_task, within_iteration, within_iterations, within_words}
 
 pub within_at_global : {S : Type 0} (n : ℕ) (state : State S) (code : Code) (text : List ℕ) → state.steps ≤ n → Within n (at_global state code text)
 within_at_global n state Normal text w = w
@@ -47,14 +47,14 @@ module _ {S K : Type 0} (outside : Outside S K) where
   within_word_rest : (n room : ℕ) (pieces : List Piece) (so_far : List ℕ) (expand : Bool) (words : List Word) (whole : List (List ℕ)) (state : State S) → state.steps ≤ n
       → Within n (word_rest outside room pieces so_far expand words whole state)
   within_word_rest n room pieces so_far expand words whole state w =
-      within_pieces (run_in room) (element_meaning (run_in room) index_depth) (falls_in room) (within_element (run_in room) (falls_in room) index_depth) n pieces so_far state
+      within_pieces (run_in room) (element_meaning (run_in room)) (falls_in room) (within_element (run_in room) (falls_in room)) n pieces so_far state
       (word_done outside room expand words whole) w
       (λ state' text w'. within_on_words n state' (λ state'' more. words_rest outside room words (whole ++ more) state'') (words_of expand text) w' (λ more. within_words_rest n room words (whole ++ more) state' w'))
 
   within_index_rest : (n : ℕ) (x : Indexing) (so_far : List ℕ) (state : State S) → state.steps ≤ n → Within n (index_rest outside x so_far state)
   within_index_rest n x so_far state w =
-      within_pieces (run_in x.room) (element_meaning (run_in x.room) x.depth) (falls_in x.room) (within_element (run_in x.room) (falls_in x.room) x.depth) n x.pieces so_far state (element_read x.name) w
-      (λ state' text w'. within_on_read n (element_name x.name text) state' (λ state'' value. Ended state'' Normal value) (element_in state'.store (seen_level state') x.name text) w' (λ value. w'))
+      within_pieces (run_in x.room) (element_within (run_in x.room) x.depth) (falls_in x.room) (within_element_within (run_in x.room) (falls_in x.room) x.depth) n x.pieces so_far state (element_read x.name) w
+      (λ state' text w'. within_on_read n (element_name x.name text) state' (λ state'' value. Ended state'' Normal value) (element_in state'.store (seen_frame state') x.name text) w' (λ value. w'))
 
   within_loop_rest : (n room : ℕ) (looping : Loop) (state : State S) → state.steps ≤ n → Within n (loop_rest outside room looping state)
   within_loop_rest n room looping state w = within_iterations (run_in room) (falls_in room) n looping state.steps state w

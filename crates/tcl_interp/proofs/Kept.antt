@@ -30,7 +30,7 @@ use Rattle.tcl_interp.proofs.TreeValues.{tree_runs}
 use Rattle.tcl_interp.specs.declared.tasks.Act.{Act}
 use Rattle.tcl_interp.specs.declared.tasks.Act.TheVariants.{Done, Step, Run, Unknown}
 use Rattle.tcl_interp.specs.Outside.{Outside}
-use Rattle.tcl_interp.specs.Evaluation.{State, Outcome, Ended, OutOfSteps, seen_level, and_then, on_normal, stepped, on_read, words_of, on_words, index_pieces, element_read, on_index, piece_meaning, pieces_meaning, index_depth, element_meaning, words_meaning, called, commands_meaning}
+use Rattle.tcl_interp.specs.Evaluation.{State, Outcome, Ended, OutOfSteps, seen_frame, and_then, on_normal, stepped, on_read, words_of, on_words, index_pieces, element_read, on_index, piece_meaning, pieces_meaning, element_within, element_meaning, words_meaning, called, commands_meaning}
 use Rattle.tcl_interp.specs.Plans.{with_first_levels, others, levels_back, procedure_ended, caught, on_tested, loop_ended, after_body, after_next, run_at, next_iteration, test_meaning, iteration_meaning, iterations_meaning, loop_meaning, plan_meaning}
 use Rattle.tcl_interp.specs.Expressions.{with_truth, on_value, if_holds, tree_meaning, expression_meaning, condition_meaning, otherwise_meaning, choices_meaning}
 use Rattle.tcl_interp.specs.Asked.{value_ended, run_meaning}
@@ -84,7 +84,7 @@ module _ {S : Type 0} (P : S → Type 0) where
   module _ (run : List ℕ → State S → Outcome S) (element : List ℕ → List ℕ → State S → Outcome S) (run_keeps : KeepsRun P run) (element_keeps : KeepsElement element) where
     pub kept_piece : (piece : Piece) (state : State S) (f : State S → List ℕ → Outcome S) → P state.shows → ((state' : State S) (text : List ℕ) → P state'.shows → Kept P (f state' text)) → Kept P (piece_meaning run element piece state f)
     kept_piece (Literal text) state f w h = h state text w
-    kept_piece (Variable name) state f w h = kept_on_read name state f (variable_in state.store (seen_level state) name) w (λ text. h state text w)
+    kept_piece (Variable name) state f w h = kept_on_read name state f (variable_in state.store (seen_frame state) name) w (λ text. h state text w)
     kept_piece (Element name index) state f w h = kept_and_then (element name index state) (on_normal f) (element_keeps name index state w) (kept_on_normal f h)
     kept_piece (Bracket script) state f w h = kept_and_then (run script state) (on_normal f) (run_keeps script state w) (kept_on_normal f h)
 
@@ -94,18 +94,21 @@ module _ {S : Type 0} (P : S → Type 0) where
         kept_piece piece state _ w (λ state' text w'.
         kept_cond (nat_le (length (so_far ++ text)) 65536) _ _ (kept_pieces pieces (so_far ++ text) state' f w' h) w')
 
-  pub kept_element : (run : List ℕ → State S → Outcome S) → KeepsRun P run → (depth : ℕ) → KeepsElement (element_meaning run depth)
-  kept_element run run_keeps zero name index state w = w
-  kept_element run run_keeps (suc depth) name index state w =
-      kept_on_index state (λ ps. pieces_meaning run (element_meaning run depth) ps [] state (element_read name)) (index_pieces index) w (λ ps.
-      kept_pieces run (element_meaning run depth) run_keeps (kept_element run run_keeps depth) ps [] state (element_read name) w
-      (λ state' text w'. kept_on_read (element_name name text) state' (λ state'' value. Ended state'' Normal value) (element_in state'.store (seen_level state') name text) w' (λ value. w')))
+  pub kept_element_within : (run : List ℕ → State S → Outcome S) → KeepsRun P run → (depth : ℕ) → KeepsElement (element_within run depth)
+  kept_element_within run run_keeps zero name index state w = w
+  kept_element_within run run_keeps (suc depth) name index state w =
+      kept_on_index state (λ ps. pieces_meaning run (element_within run depth) ps [] state (element_read name)) (index_pieces index) w (λ ps.
+      kept_pieces run (element_within run depth) run_keeps (kept_element_within run run_keeps depth) ps [] state (element_read name) w
+      (λ state' text w'. kept_on_read (element_name name text) state' (λ state'' value. Ended state'' Normal value) (element_in state'.store (seen_frame state') name text) w' (λ value. w')))
+
+  pub kept_element : (run : List ℕ → State S → Outcome S) → KeepsRun P run → KeepsElement (element_meaning run)
+  kept_element run run_keeps name index state w = kept_element_within run run_keeps (suc (length index)) name index state w
 
   module _ (run : List ℕ → State S → Outcome S) (call : List (List ℕ) → State S → Outcome S) (run_keeps : KeepsRun P run) where
     pub kept_words : (words : List Word) (whole : List (List ℕ)) (state : State S) (f : State S → List (List ℕ) → Outcome S) → P state.shows → ((state' : State S) (all : List (List ℕ)) → P state'.shows → Kept P (f state' all)) → Kept P (words_meaning run call words whole state f)
     kept_words [] whole state f w h = h state whole w
     kept_words (word ∷ words) whole state f w h =
-        kept_pieces run (element_meaning run index_depth) run_keeps (kept_element run run_keeps index_depth) word.pieces [] state _ w (λ state' text w'.
+        kept_pieces run (element_meaning run) run_keeps (kept_element run run_keeps) word.pieces [] state _ w (λ state' text w'.
         kept_on_words state' (λ state'' more. words_meaning run call words (whole ++ more) state'' f) (words_of word.expand text) w' (λ more. kept_words words (whole ++ more) state' f w' h))
 
     pub kept_called : KeepsRun P call → (state : State S) (words : List (List ℕ)) → P state.shows → Kept P (called run call state words)
@@ -154,9 +157,9 @@ module _ {S : Type 0} (P : S → Type 0) where
 
   module _ (run : List ℕ → State S → Outcome S) (run_keeps : KeepsRun P run) where
     pub kept_run : (r : Evaluating) (state : State S) → P state.shows → Kept P (run_meaning run r state)
-    kept_run (AsksVariable name go) state w = kept_on_read name state (λ state' value. run_meaning run (go value) state') (variable_in state.store (seen_level state) name) w (λ value. kept_run (go value) state w)
+    kept_run (AsksVariable name go) state w = kept_on_read name state (λ state' value. run_meaning run (go value) state') (variable_in state.store (seen_frame state) name) w (λ value. kept_run (go value) state w)
     kept_run (AsksElement array index go) state w =
-        kept_on_read (element_name array index) state (λ state' value. run_meaning run (go value) state') (element_in state.store (seen_level state) array index) w (λ value. kept_run (go value) state w)
+        kept_on_read (element_name array index) state (λ state' value. run_meaning run (go value) state') (element_in state.store (seen_frame state) array index) w (λ value. kept_run (go value) state w)
     kept_run (AsksCommand script go) state w =
         kept_and_then (run script state) (on_normal (λ state' value. run_meaning run (go value) state')) (run_keeps script state w)
         (kept_on_normal (λ state' value. run_meaning run (go value) state') (λ state' value w'. kept_run (go value) state' w'))
@@ -192,7 +195,7 @@ module _ {S : Type 0} (P : S → Type 0) where
 
     kept_test : (test : Test) (body : Test → State S → Outcome S) (state : State S) → P state.shows → ((after : Test) (state' : State S) → P state'.shows → Kept P (body after state')) → Kept P (test_meaning run test body state)
     kept_test (Holds condition) body state w h = kept_condition condition _ state w (kept_if (body (Holds condition)) loop_ended (h (Holds condition)) (λ state' w'. w'))
-    kept_test (Items groups) body state w h = kept_on_tested state _ (items_tested (seen_level state) groups state.store) w (λ left state' w'. h (Items left) state' w')
+    kept_test (Items groups) body state w h = kept_on_tested state _ (items_tested (seen_frame state) groups state.store) w (λ left state' w'. h (Items left) state' w')
 
     pub kept_iteration : (looping : Loop) (again : State S → Outcome S) → ((state : State S) → P state.shows → Kept P (again state)) → (state : State S) → P state.shows → Kept P (iteration_meaning run looping again state)
     kept_iteration looping again h state w =

@@ -27,8 +27,9 @@ use Rattle.tcl_control.proofs.ExpressionLemmas.{expression_walk}
 use Rattle.tcl_control.specs.Texts.{limit_text, element_name}
 use Rattle.tcl_expr.proofs.CompileLemmas.{execute_whole}
 use Rattle.tcl_interp.proofs.TreeValues.{tree_runs}
+use Rattle.tcl_interp.proofs.Elements.{deep_enough}
 use Rattle.tcl_interp.specs.Outside.{Outside}
-use Rattle.tcl_interp.specs.Evaluation.{State, Outcome, Ended, OutOfSteps, seen_level, and_then, on_normal, with_step, on_read, with_joined, words_of, on_words, index_pieces, element_read, on_index, pieces_meaning, index_depth, element_meaning}
+use Rattle.tcl_interp.specs.Evaluation.{State, Outcome, Ended, OutOfSteps, seen_frame, and_then, on_normal, with_step, on_read, with_joined, words_of, on_words, index_pieces, element_read, on_index, pieces_meaning, element_within, element_meaning}
 use Rattle.tcl_interp.specs.Expressions.{with_truth, on_value, if_holds, tree_meaning, expression_meaning, otherwise_meaning, choices_meaning}
 use Rattle.tcl_interp.specs.Asked.{run_meaning}
 use Rattle.tcl_interp.specs.Plans.{loop_ended, after_body, after_next, next_iteration}
@@ -36,7 +37,7 @@ use Rattle.tcl_interp.specs.Acts.{script_meaning, outside_meaning}
 use Rattle.tcl_interp.specs.Scripts.{out_of_global, at_global, call_meaning, on_parsed}
 use Rattle.tcl_interp.specs.Finish.{Wording, Indexing, Doing, Begins, GoesOn, Indexes, Evaluates, Calls, Tests, Steps, Resumes, Ends, Waiting, ForCommand, ForPart, ForIndex, ForValue, ForTest, ForChoice, ForBody, ForNext, ForStart, ForCatch, ForLevels, ForProcedure, ForScript, ForAll, Running, script_rest, words_rest, word_done, index_rest, value_rest, choice_rest, iteration_rest, loop_rest, waiting_meaning, waits_meaning, finish}
 use Rattle.tcl_interp.specs.Quiet.{told_run, EvaluationMoves, MovesBy, LeadsBy, Leads}
-use Rattle.tcl_interp.specs.Moves.{Moved, Standing, Part, Script, ElementOf, variable_value, WordEnd, Whole, Failed, AtPart, join_end, piece_end, word_end, with_more_words, moved, more_move, index_begins, element_begins, part_begins, word_move, words_move, element_end, index_move, indexes_move, parsed_move, begin_move, go_on_move, after_command, after_part, after_index, begun_as, expression_begins, value_given, answer_move, otherwise_move, choice_move, after_value_move, iteration_move, after_test_move, chosen_move, after_choice_move, next_move, after_body_move, after_next_move, after_start_move, global_end, end_move}
+use Rattle.tcl_interp.specs.Moves.{Moved, Standing, Part, Script, ElementOf, variable_value, WordEnd, Whole, Failed, AtPart, index_depth, join_end, piece_end, word_end, with_more_words, moved, more_move, index_begins, element_begins, part_begins, word_move, words_move, element_end, index_move, indexes_move, parsed_move, begin_move, go_on_move, after_command, after_part, after_index, begun_as, expression_begins, value_given, answer_move, otherwise_move, choice_move, after_value_move, iteration_move, after_test_move, chosen_move, after_choice_move, next_move, after_body_move, after_next_move, after_start_move, global_end, end_move}
 
 pub and_then_assoc : {S : Type 0} (o : Outcome S) (f g : State S → Code → List ℕ → Outcome S) → and_then (and_then o f) g ≡ and_then o (λ state code text. and_then (f state code text) g)
 and_then_assoc (Ended state code text) f g = refl
@@ -69,15 +70,15 @@ module _ {S : Type 0} (run : List ℕ → State S → Outcome S) (element : List
   read_cases state name (Err fault) pieces so_far go after h = refl
 
   -- the pieces of a word mean what the word's end says
-  pub pieces_end : (pieces : List Piece) (so_far : List ℕ) (state : State S) → pieces_meaning run element pieces so_far state f ≡ end_meaning state (word_end (seen_level state) state.store pieces so_far)
+  pub pieces_end : (pieces : List Piece) (so_far : List ℕ) (state : State S) → pieces_meaning run element pieces so_far state f ≡ end_meaning state (word_end (seen_frame state) state.store pieces so_far)
   pieces_end [] so_far state = refl
   pieces_end (Literal text ∷ pieces) so_far state = joined_cases (nat_le (length (so_far ++ text)) 65536) state _ _ (pieces_end pieces (so_far ++ text) state)
   pieces_end (Variable name ∷ pieces) so_far state =
-      read_cases state name (variable_in state.store (seen_level state) name) pieces so_far (word_end (seen_level state) state.store pieces) (λ state' text. with_joined so_far text state' (λ state'' joined. pieces_meaning run element pieces joined state'' f)) (λ text. joined_cases (nat_le (length (so_far ++ text)) 65536) state _ _ (pieces_end pieces (so_far ++ text) state))
+      read_cases state name (variable_in state.store (seen_frame state) name) pieces so_far (word_end (seen_frame state) state.store pieces) (λ state' text. with_joined so_far text state' (λ state'' joined. pieces_meaning run element pieces joined state'' f)) (λ text. joined_cases (nat_le (length (so_far ++ text)) 65536) state _ _ (pieces_end pieces (so_far ++ text) state))
   pieces_end (Element name index ∷ pieces) so_far state = refl
   pieces_end (Bracket script ∷ pieces) so_far state = refl
 
-  pub joined_end : (pieces : List Piece) (so_far text : List ℕ) (state : State S) → with_joined so_far text state (λ state' joined. pieces_meaning run element pieces joined state' f) ≡ end_meaning state (join_end so_far text (word_end (seen_level state) state.store pieces))
+  pub joined_end : (pieces : List Piece) (so_far text : List ℕ) (state : State S) → with_joined so_far text state (λ state' joined. pieces_meaning run element pieces joined state' f) ≡ end_meaning state (join_end so_far text (word_end (seen_frame state) state.store pieces))
   joined_end pieces so_far text state = joined_cases (nat_le (length (so_far ++ text)) 65536) state _ _ (pieces_end pieces (so_far ++ text) state)
 
 pub begin_some : {K : Type 0} (room : ℕ) (text : List ℕ) (waits : List (Waiting K)) → begin_move (suc room) text waits ≡ parsed_move room waits (script_of text)
@@ -101,7 +102,7 @@ module _ {S K : Type 0} (outside : Outside S K) where
 
   -- an element, where scripts have so much room, and indices go so deep
   abbrev pub elements_in : ℕ → ℕ → List ℕ → List ℕ → State S → Outcome S
-  elements_in room depth = element_meaning (run_in room) depth
+  elements_in room depth = element_within (run_in room) depth
 
   -- the outcome after a move of what is done and what waits
   abbrev pub finish_moved : Moved K → State S → Outcome S
@@ -129,6 +130,12 @@ module _ {S K : Type 0} (outside : Outside S K) where
   part_same room (suc depth) (ElementOf name index) waits state =
       index_begins_same room depth name waits state (index_pieces index) ∙ ap (λ d. finish_moved (moved d waits) state) (sym (element_begins_some room depth name index))
 
+  word_part_same : (room : ℕ) (part : Part) (waits : List (Waiting K)) (state : State S)
+      → and_then (part_meaning (run_in room) (element_meaning (run_in room)) part state) (waits_meaning outside waits) ≡ finish_moved (moved (part_begins room index_depth part) waits) state
+  word_part_same room (Script script) waits state = refl
+  word_part_same room (ElementOf name index) waits state =
+      ap (λ o. and_then o (waits_meaning outside waits)) (sym (deep_enough (run_in room) name index state)) ∙ part_same room index_depth (ElementOf name index) waits state
+
   element_same : (name : List ℕ) (waits : List (Waiting K)) (state : State S) (value : Result (List ℕ) ReadFault)
       → and_then (on_read name state (λ state' text. Ended state' Normal text) value) (waits_meaning outside waits) ≡ finish_moved (moved (element_end name value) waits) state
   element_same name waits state (Ok value) = refl
@@ -136,17 +143,17 @@ module _ {S K : Type 0} (outside : Outside S K) where
 
   index_same : (x : Indexing) (waits : List (Waiting K)) (state : State S) (end : WordEnd)
       → and_then (end_meaning (run_in x.room) (elements_in x.room x.depth) (element_read x.name) state end) (waits_meaning outside waits)
-      ≡ finish_moved (index_move (seen_level state) state.store x waits end) state
-  index_same x waits state (Whole index) = element_same (element_name x.name index) waits state (element_in state.store (seen_level state) x.name index)
+      ≡ finish_moved (index_move (seen_frame state) state.store x waits end) state
+  index_same x waits state (Whole index) = element_same (element_name x.name index) waits state (element_in state.store (seen_frame state) x.name index)
   index_same x waits state (Failed text) = refl
   index_same x waits state (AtPart part pieces so_far) =
       and_then_assoc (part_meaning (run_in x.room) (elements_in x.room x.depth) part state) (on_normal (λ state' text. with_joined so_far text state' (λ state'' joined. pieces_meaning (run_in x.room) (elements_in x.room x.depth) pieces joined state'' (element_read x.name)))) (waits_meaning outside waits)
       ∙ part_same x.room x.depth part (ForIndex (record x { so_far = so_far; pieces = pieces }) ∷ waits) state
 
-  indexes_same : (x : Indexing) (waits : List (Waiting K)) (state : State S) → and_then (index_rest outside x x.so_far state) (waits_meaning outside waits) ≡ finish_moved (indexes_move (seen_level state) state.store x waits) state
+  indexes_same : (x : Indexing) (waits : List (Waiting K)) (state : State S) → and_then (index_rest outside x x.so_far state) (waits_meaning outside waits) ≡ finish_moved (indexes_move (seen_frame state) state.store x waits) state
   indexes_same x waits state =
       ap (λ o. and_then o (waits_meaning outside waits)) (pieces_end (run_in x.room) (elements_in x.room x.depth) (element_read x.name) x.pieces x.so_far state)
-      ∙ index_same x waits state (word_end (seen_level state) state.store x.pieces x.so_far)
+      ∙ index_same x waits state (word_end (seen_frame state) state.store x.pieces x.so_far)
 
   longer_same : (x : Indexing) (so_far : List ℕ) (b : Bool) (waits : List (Waiting K)) (state : State S)
       → and_then (cond b (index_rest outside x so_far state) (Ended state Error limit_text)) (waits_meaning outside waits) ≡ finish_moved (moved (cond b (Indexes (record x { so_far = so_far })) (Ends Error limit_text)) waits) state
@@ -182,27 +189,27 @@ module _ {S K : Type 0} (outside : Outside S K) where
   word_same : (room : ℕ) (after : List Command) (expand : Bool) (words : List Word) (whole : List (List ℕ)) (waits : List (Waiting K)) (state : State S) (go : List (List ℕ) → Moved K)
       → ((more : List (List ℕ)) → and_then (and_then (words_rest outside room words more state) (next_in room after)) (waits_meaning outside waits) ≡ finish_moved (go more) state)
       → (end : WordEnd)
-      → and_then (and_then (end_meaning (run_in room) (elements_in room index_depth) (word_done outside room expand words whole) state end) (next_in room after)) (waits_meaning outside waits)
+      → and_then (and_then (end_meaning (run_in room) (element_meaning (run_in room)) (word_done outside room expand words whole) state end) (next_in room after)) (waits_meaning outside waits)
       ≡ finish_moved (word_move room after expand words whole waits go end) state
   word_same room after expand words whole waits state go h (Whole text) = more_same room after words whole waits state go h (words_of expand text)
   word_same room after expand words whole waits state go h (Failed text) = refl
   word_same room after expand words whole waits state go h (AtPart part pieces so_far) =
       let f : State S → List ℕ → Outcome S = word_done outside room expand words whole in
-      let g : State S → List ℕ → Outcome S = λ state' text. with_joined so_far text state' (λ state'' joined. pieces_meaning (run_in room) (elements_in room index_depth) pieces joined state'' f) in
-      let part_outcome : Outcome S = part_meaning (run_in room) (elements_in room index_depth) part state in
+      let g : State S → List ℕ → Outcome S = λ state' text. with_joined so_far text state' (λ state'' joined. pieces_meaning (run_in room) (element_meaning (run_in room)) pieces joined state'' f) in
+      let part_outcome : Outcome S = part_meaning (run_in room) (element_meaning (run_in room)) part state in
       and_then_assoc (and_then part_outcome (on_normal g)) (next_in room after) (waits_meaning outside waits)
       ∙ and_then_assoc part_outcome (on_normal g) (λ state' code text. and_then (next_in room after state' code text) (waits_meaning outside waits))
       ∙ and_then_cong part_outcome _ _ (λ state' code text.
       sym (and_then_assoc (on_normal g state' code text) (next_in room after) (waits_meaning outside waits)) ∙ after_part_same room after waits g state' code text)
-      ∙ part_same room index_depth part (ForPart (record { room = room; after = after; whole = whole; so_far = so_far; expand = expand; pieces = pieces; words = words }) ∷ waits) state
+      ∙ word_part_same room part (ForPart (record { room = room; after = after; whole = whole; so_far = so_far; expand = expand; pieces = pieces; words = words }) ∷ waits) state
 
   pub words_same : (room : ℕ) (after : List Command) (words : List Word) (whole : List (List ℕ)) (waits : List (Waiting K)) (state : State S)
-      → and_then (and_then (words_rest outside room words whole state) (next_in room after)) (waits_meaning outside waits) ≡ finish_moved (words_move (seen_level state) state.store room after words whole waits) state
+      → and_then (and_then (words_rest outside room words whole state) (next_in room after)) (waits_meaning outside waits) ≡ finish_moved (words_move (seen_frame state) state.store room after words whole waits) state
   words_same room after [] [] waits state = refl
   words_same room after [] (name ∷ arguments) waits state = and_then_assoc (with_step state (call_in room (name ∷ arguments))) (next_in room after) (waits_meaning outside waits)
   words_same room after (word ∷ words) whole waits state =
-      ap (λ o. and_then (and_then o (next_in room after)) (waits_meaning outside waits)) (pieces_end (run_in room) (elements_in room index_depth) (word_done outside room word.expand words whole) word.pieces [] state)
-      ∙ word_same room after word.expand words whole waits state (λ more. words_move (seen_level state) state.store room after words more waits) (λ more. words_same room after words more waits state) (word_end (seen_level state) state.store word.pieces [])
+      ap (λ o. and_then (and_then o (next_in room after)) (waits_meaning outside waits)) (pieces_end (run_in room) (element_meaning (run_in room)) (word_done outside room word.expand words whole) word.pieces [] state)
+      ∙ word_same room after word.expand words whole waits state (λ more. words_move (seen_frame state) state.store room after words more waits) (λ more. words_same room after words more waits state) (word_end (seen_frame state) state.store word.pieces [])
 
   -- ── expressions ──
 
@@ -224,14 +231,14 @@ module _ {S K : Type 0} (outside : Outside S K) where
   given_same room next name waits state (Err fault) = refl
 
   answer_same : (room : ℕ) (next : Resumption) (waits : List (Waiting K)) (state : State S) (answer : Result Ask EvalFault)
-      → and_then (run_meaning (run_in room) (told_run answer next) state) (waits_meaning outside waits) ≡ finish_moved (answer_move (seen_level state) state.store room next waits answer) state
-  answer_same room next waits state (Ok (ask.Variable name)) = given_same room next name waits state (variable_in state.store (seen_level state) name)
-  answer_same room next waits state (Ok (ask.Element array index)) = given_same room next (element_name array index) waits state (element_in state.store (seen_level state) array index)
+      → and_then (run_meaning (run_in room) (told_run answer next) state) (waits_meaning outside waits) ≡ finish_moved (answer_move (seen_frame state) state.store room next waits answer) state
+  answer_same room next waits state (Ok (ask.Variable name)) = given_same room next name waits state (variable_in state.store (seen_frame state) name)
+  answer_same room next waits state (Ok (ask.Element array index)) = given_same room next (element_name array index) waits state (element_in state.store (seen_frame state) array index)
   answer_same room next waits state (Ok (ask.Command script)) = and_then_assoc (run_in room script state) (on_normal (λ state' value. run_meaning (run_in room) (answered next value) state')) (waits_meaning outside waits)
   answer_same room next waits state (Ok (ask.Value text)) = refl
   answer_same room next waits state (Err fault) = refl
 
-  evaluation_same : (room : ℕ) (evaluation : Resumption) (given : Option (List ℕ)) (waits : List (Waiting K)) (state : State S) (after : Moved K) → EvaluationMoves (seen_level state) state.store room evaluation given waits after
+  evaluation_same : (room : ℕ) (evaluation : Resumption) (given : Option (List ℕ)) (waits : List (Waiting K)) (state : State S) (after : Moved K) → EvaluationMoves (seen_frame state) state.store room evaluation given waits after
       → and_then (value_rest outside room evaluation given state) (waits_meaning outside waits) ≡ finish_moved after state
   evaluation_same room evaluation given waits state after (answer, next, told_so, by, e) =
       ap (λ r. and_then (run_meaning (run_in room) r state) (waits_meaning outside waits)) told_so ∙ answer_same room next waits state answer ∙ ap (λ m. finish_moved m state) (sym e)
@@ -257,7 +264,7 @@ module _ {S K : Type 0} (outside : Outside S K) where
   begin_same zero text waits state = refl
   begin_same (suc room) text waits state = parsed_same room waits state (script_of text) ∙ ap (λ m. finish_moved m state) (sym (begin_some room text waits))
 
-  pub go_on_same : (room : ℕ) (commands : List Command) (result : List ℕ) (waits : List (Waiting K)) (state : State S) → and_then (script_rest outside room commands result state) (waits_meaning outside waits) ≡ finish_moved (go_on_move (seen_level state) state.store room commands result waits) state
+  pub go_on_same : (room : ℕ) (commands : List Command) (result : List ℕ) (waits : List (Waiting K)) (state : State S) → and_then (script_rest outside room commands result state) (waits_meaning outside waits) ≡ finish_moved (go_on_move (seen_frame state) state.store room commands result waits) state
   go_on_same room [] result waits state = refl
   go_on_same room (command ∷ after) result waits state = words_same room after command.words [] waits state
 
@@ -270,10 +277,10 @@ module _ {S K : Type 0} (outside : Outside S K) where
   command_end_same room after waits state Break text = refl
   command_end_same room after waits state Continue text = refl
 
-  part_end_same : (w : Wording) (waits : List (Waiting K)) (state : State S) (code : Code) (text : List ℕ) → and_then (waiting_meaning outside (ForPart w) state code text) (waits_meaning outside waits) ≡ finish_moved (after_part (seen_level state) state.store w waits code text) state
+  part_end_same : (w : Wording) (waits : List (Waiting K)) (state : State S) (code : Code) (text : List ℕ) → and_then (waiting_meaning outside (ForPart w) state code text) (waits_meaning outside waits) ≡ finish_moved (after_part (seen_frame state) state.store w waits code text) state
   part_end_same w waits state Normal text =
-      ap (λ o. and_then (and_then o (next_in w.room w.after)) (waits_meaning outside waits)) (joined_end (run_in w.room) (elements_in w.room index_depth) (word_done outside w.room w.expand w.words w.whole) w.pieces w.so_far text state)
-      ∙ word_same w.room w.after w.expand w.words w.whole waits state (λ more. words_move (seen_level state) state.store w.room w.after w.words more waits) (λ more. words_same w.room w.after w.words more waits state) (join_end w.so_far text (word_end (seen_level state) state.store w.pieces))
+      ap (λ o. and_then (and_then o (next_in w.room w.after)) (waits_meaning outside waits)) (joined_end (run_in w.room) (element_meaning (run_in w.room)) (word_done outside w.room w.expand w.words w.whole) w.pieces w.so_far text state)
+      ∙ word_same w.room w.after w.expand w.words w.whole waits state (λ more. words_move (seen_frame state) state.store w.room w.after w.words more waits) (λ more. words_same w.room w.after w.words more waits state) (join_end w.so_far text (word_end (seen_frame state) state.store w.pieces))
   part_end_same w waits state Error text = refl
   part_end_same w waits state (Return code) text = refl
   part_end_same w waits state Break text = refl

@@ -22,7 +22,7 @@ use Rattle.tcl_control.specs.Levels.{here}
 use Rattle.tcl_control.specs.Source.{script_of}
 use Rattle.tcl_control.specs.Texts.{limit_text}
 use Rattle.tcl_interp.specs.Outside.{Outside}
-use Rattle.tcl_interp.specs.Evaluation.{State, Outcome, Ended, OutOfSteps, and_then, on_normal, words_of, on_words, index_depth, word_meaning, words_meaning, called, commands_meaning}
+use Rattle.tcl_interp.specs.Evaluation.{State, Outcome, Ended, OutOfSteps, and_then, on_normal, words_of, on_words, element_meaning, word_meaning, words_meaning, called, commands_meaning}
 use Rattle.tcl_interp.specs.Expressions.{expression_meaning}
 use Rattle.tcl_interp.specs.Acts.{script_meaning, outside_meaning}
 use Rattle.tcl_interp.specs.Scripts.{call_meaning, called_meaning, on_parsed}
@@ -32,7 +32,7 @@ use Rattle.tcl_interp.specs.Openings.{IsInteger}
 use Rattle.tcl_interp.specs.Rests.{IsSingle, words_in_front, pieces_in_front, expand_in_front, read_commands}
 use Rattle.tcl_interp.specs.Simple.{IsWritten, Computes, ExprGives, GivesWord, WordsLead, GivesScript, EndsCall}
 use Rattle.tcl_interp.specs.Steps.{state_with, finish_from, TakesStep, TakesSteps}
-use Rattle.tcl_interp.proofs.Same.{end_meaning, pieces_end, run_in, elements_in, next_in, words_same, expression_same, end_same, leads_same}
+use Rattle.tcl_interp.proofs.Same.{end_meaning, pieces_end, run_in, next_in, words_same, expression_same, end_same, leads_same}
 use Rattle.tcl_interp.proofs.Straight.{opened_leads}
 
 -- the command in front of those behind it
@@ -107,9 +107,9 @@ module _ {S K : Type 0} (outside : Outside S K) where
     λ shows left after.
         let state = state_with shows store context left in
         ap (λ n. word_meaning (run_in outside room) (pieces_in_front words) [] (state_with shows store context n) after) (none left)
-        ∙ pieces_end (run_in outside room) (elements_in outside room index_depth) after (pieces_in_front words) [] state
-        ∙ ap (λ l. end_meaning (run_in outside room) (elements_in outside room index_depth) after state (word_end l store (pieces_in_front words) [])) (sym at_level)
-        ∙ ap (end_meaning (run_in outside room) (elements_in outside room index_depth) after state) (sym end),
+        ∙ pieces_end (run_in outside room) (element_meaning (run_in outside room)) after (pieces_in_front words) [] state
+        ∙ ap (λ l. end_meaning (run_in outside room) (element_meaning (run_in outside room)) after state (word_end l store (pieces_in_front words) [])) (sym at_level)
+        ∙ ap (end_meaning (run_in outside room) (element_meaning (run_in outside room)) after state) (sym end),
   )
 
   written_gives : (room : ℕ) (words : List Word) (store : Store) (context : Context) (text : List ℕ) → IsWritten words text → length text ≤ 65536 → GivesWord outside room words store context 0 text

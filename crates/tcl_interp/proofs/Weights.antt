@@ -25,10 +25,10 @@ use Rattle.tcl_expr.proofs.StepLemmas.{weighs_less}
 use Rattle.tcl_control.specs.Levels.{here}
 use Rattle.tcl_control.specs.Source.{script_of}
 use Rattle.tcl_control.specs.Texts.{limit_text, element_name}
-use Rattle.tcl_interp.specs.Evaluation.{index_pieces, index_depth, words_of}
+use Rattle.tcl_interp.specs.Evaluation.{index_pieces, words_of}
 use Rattle.tcl_interp.specs.Scripts.{out_of_global}
 use Rattle.tcl_interp.specs.Finish.{Wording, Indexing, Doing, Begins, GoesOn, Indexes, Evaluates, Calls, Tests, Steps, Resumes, Ends, Waiting, ForCommand, ForPart, ForIndex, ForValue, ForTest, ForChoice, ForBody, ForNext, ForStart, ForCatch, ForLevels, ForProcedure, ForScript, ForAll}
-use Rattle.tcl_interp.specs.Moves.{Moved, Standing, Part, Script, ElementOf, variable_value, WordEnd, Whole, Failed, AtPart, join_end, piece_end, word_end, with_more_words, moved, more_move, index_begins, part_begins, word_move, words_move, element_end, index_move, indexes_move, parsed_move, begin_move, go_on_move, after_command, part_move, after_part, after_index, begun_as, value_given, asked_move, answer_move, otherwise_move, choice_move, after_value_move, iteration_move, after_test_move, chosen_move, after_choice_move, next_move, after_body_move, after_next_move, after_start_move, global_end, end_move}
+use Rattle.tcl_interp.specs.Moves.{Moved, Standing, Part, Script, ElementOf, variable_value, WordEnd, Whole, Failed, AtPart, index_depth, join_end, piece_end, word_end, with_more_words, moved, more_move, index_begins, part_begins, word_move, words_move, element_end, index_move, indexes_move, parsed_move, begin_move, go_on_move, after_command, part_move, after_part, after_index, begun_as, value_given, asked_move, answer_move, otherwise_move, choice_move, after_value_move, iteration_move, after_test_move, chosen_move, after_choice_move, next_move, after_body_move, after_next_move, after_start_move, global_end, end_move}
 use Rattle.tcl_interp.specs.Quiet.{EvaluationMoves, MovesBy, Moves, LeadsBy, Leads, IsQuietBy, IsQuiet}
 use Rattle.tcl_interp.proofs.Same.{begin_some, element_begins_some}
 

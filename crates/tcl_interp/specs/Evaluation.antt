@@ -11,7 +11,7 @@ use Rattle.tcl_text.specs.declared.fault.ParseFault.TheVariants.{TooLong}
 use Rattle.tcl_text.specs.FaultTexts.{list_text, parse_text as text_of}
 use Rattle.tcl_words.proofs.Parses.{one_index_parse}
 use Rattle.tcl_words.specs.Grammar.{IsIndexParse}
-use Rattle.tcl_words.specs.One.{One}
+use Rattle.tcl_text.specs.One.{One}
 use Rattle.tcl_vars.specs.Store.{Store, variable_in, element_in}
 use Rattle.tcl_text.specs.declared.fault.ReadFault.{ReadFault}
 use Rattle.tcl_control.specs.declared.code.Code.{Code}
@@ -19,7 +19,7 @@ use Rattle.tcl_control.specs.declared.code.Code.TheVariants.{Normal, Error}
 use Rattle.tcl_control.specs.declared.context.Context.{Context}
 use Rattle.tcl_control.specs.Levels.{here}
 use Rattle.tcl_control.specs.Texts.{limit_text, message, cannot_read_text, element_name}
-use Rattle.tcl_text.specs.Limits.{most_bytes, most_nested}
+use Rattle.tcl_text.specs.Limits.{most_bytes}
 
 -- What commands beside Tcl's see and change, the variables, the levels and the commands, and how many steps are left.
 pub record State (S : Type 0) : Type 0 where
@@ -34,8 +34,8 @@ pub data Outcome (S : Type 0) : Type 0 where
   OutOfSteps : State S → Outcome S
 
 -- the place of the frame whose variables are seen
-abbrev pub seen_level : {S : Type 0} → State S → ℕ
-seen_level state = here state.context.levels state.store
+abbrev pub seen_frame : {S : Type 0} → State S → ℕ
+seen_frame state = here state.context.levels state.store
 
 -- what comes behind something that ends
 abbrev pub and_then : {S : Type 0} → Outcome S → (State S → Code → List ℕ → Outcome S) → Outcome S
@@ -61,7 +61,7 @@ on_read name state after (Ok value) = after state value
 on_read name state after (Err fault) = Ended state Error (cannot_read_text name fault)
 
 abbrev pub with_value_of : {S : Type 0} → List ℕ → State S → (State S → List ℕ → Outcome S) → Outcome S
-with_value_of name state after = on_read name state after (variable_in state.store (seen_level state) name)
+with_value_of name state after = on_read name state after (variable_in state.store (seen_frame state) name)
 
 -- with the text so far of a word and one piece more, where that isn't too long for a value
 abbrev pub with_joined : {S : Type 0} → List ℕ → List ℕ → State S → (State S → List ℕ → Outcome S) → Outcome S
@@ -91,7 +91,7 @@ index_pieces text = (only_index_parse text).it
 -- an element is read, whose index is whole
 abbrev pub element_read : {S : Type 0} → List ℕ → State S → List ℕ → Outcome S
 element_read name state index =
-    on_read (element_name name index) state (λ state' value. Ended state' Normal value) (element_in state.store (seen_level state) name index)
+    on_read (element_name name index) state (λ state' value. Ended state' Normal value) (element_in state.store (seen_frame state) name index)
 
 abbrev pub on_index : {S : Type 0} → State S → (List Piece → Outcome S) → Result (List Piece) ParseFault → Outcome S
 on_index state after (Ok pieces) = after pieces
@@ -112,22 +112,24 @@ module _ {S : Type 0} (run : List ℕ → State S → Outcome S) (element : List
   pieces_meaning (piece ∷ pieces) so_far state after =
       piece_meaning piece state (λ state' text. with_joined so_far text state' (λ state'' joined. pieces_meaning pieces joined state'' after))
 
--- how many indices stand in one another at most, in a script that can be read
-unfoldable pub index_depth : ℕ
-index_depth = most_nested
-
 module _ {S : Type 0} (run : List ℕ → State S → Outcome S) where
-  -- An element: its index is put together, and then it is read. The depth is there for the recursion alone, and no word of a command comes to its end: a
-  -- text is read as a script only where at most so many indices and brackets stand in one another (`IsScriptOf`), each index here takes one of them, it has
-  -- by itself the pieces that it has in its place, and a bracket's script begins anew.
-  abbrev pub element_meaning : ℕ → List ℕ → List ℕ → State S → Outcome S
-  element_meaning zero name index state = Ended state Error (message (text_of TooLong))
-  element_meaning (suc depth) name index state =
-      on_index state (λ pieces. pieces_meaning run (element_meaning depth) pieces [] state (element_read name)) (index_pieces index)
+  -- An element: its index is put together, and then it is read. How the elements that stand in the index are read is given.
+  abbrev pub element_by : (List ℕ → List ℕ → State S → Outcome S) → List ℕ → List ℕ → State S → Outcome S
+  element_by inner name index state = on_index state (λ pieces. pieces_meaning run inner pieces [] state (element_read name)) (index_pieces index)
+
+  -- So all the way down, where the index has fewer bytes than this. The index of an element that stands in it has fewer than it, so none comes to the first
+  -- line. The number is there for the recursion alone: law `elements_are_read` has the equation without it.
+  abbrev pub element_within : ℕ → List ℕ → List ℕ → State S → Outcome S
+  element_within zero name index state = Ended state Error (message (text_of TooLong))
+  element_within (suc bytes) name index state = element_by (element_within bytes) name index state
+
+  -- an element, with those in its index read in the same way
+  abbrev pub element_meaning : List ℕ → List ℕ → State S → Outcome S
+  element_meaning name index state = element_within (suc (length index)) name index state
 
   -- the pieces of a word
   abbrev pub word_meaning : List Piece → List ℕ → State S → (State S → List ℕ → Outcome S) → Outcome S
-  word_meaning pieces so_far state after = pieces_meaning run (element_meaning index_depth) pieces so_far state after
+  word_meaning pieces so_far state after = pieces_meaning run element_meaning pieces so_far state after
 
 -- How a script is run, and how a command is called with its words, are given.
 module _ {S : Type 0} (run : List ℕ → State S → Outcome S) (call : List (List ℕ) → State S → Outcome S) where

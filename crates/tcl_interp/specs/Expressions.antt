@@ -13,11 +13,11 @@ use Rattle.tcl_control.specs.declared.code.Code.{Code}
 use Rattle.tcl_control.specs.declared.code.Code.TheVariants.{Normal, Error}
 use Rattle.tcl_control.specs.Expressions.{expression_of, truth_of_text}
 use Rattle.tcl_control.specs.Texts.{element_name}
-use Rattle.tcl_interp.specs.Evaluation.{State, Outcome, Ended, seen_level, and_then, on_normal, on_read, with_value_of}
+use Rattle.tcl_interp.specs.Evaluation.{State, Outcome, Ended, seen_frame, and_then, on_normal, on_read, with_value_of}
 
 -- with the value of an element
 abbrev pub with_value_at : {S : Type 0} → List ℕ → List ℕ → State S → (State S → List ℕ → Outcome S) → Outcome S
-with_value_at array index state after = on_read (element_name array index) state after (element_in state.store (seen_level state) array index)
+with_value_at array index state after = on_read (element_name array index) state after (element_in state.store (seen_frame state) array index)
 
 -- with what an operator gives, unless it was refused
 abbrev pub with_result : {S T : Type 0} → State S → (State S → T → Outcome S) → Result T EvalFault → Outcome S

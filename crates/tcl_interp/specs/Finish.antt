@@ -9,7 +9,7 @@ use Rattle.tcl_control.specs.declared.loops.Loop.{Loop}
 use Rattle.tcl_commands.specs.declared.branches.Branch.{Branch}
 use Rattle.tcl_expr.specs.Resuming.{Resumption, evaluation_told}
 use Rattle.tcl_interp.specs.Outside.{Outside}
-use Rattle.tcl_interp.specs.Evaluation.{State, Outcome, Ended, OutOfSteps, and_then, on_normal, with_step, with_joined, words_of, on_words, pieces_meaning, element_read, element_meaning, word_meaning, words_meaning, called, commands_meaning}
+use Rattle.tcl_interp.specs.Evaluation.{State, Outcome, Ended, OutOfSteps, and_then, on_normal, with_step, with_joined, words_of, on_words, pieces_meaning, element_read, element_within, word_meaning, words_meaning, called, commands_meaning}
 use Rattle.tcl_interp.specs.Expressions.{on_value, if_holds, otherwise_meaning, choices_meaning}
 use Rattle.tcl_interp.specs.Asked.{run_meaning}
 use Rattle.tcl_interp.specs.Plans.{levels_back, procedure_ended, caught, loop_ended, after_body, after_next, next_iteration, iteration_meaning, loop_meaning}
@@ -120,7 +120,7 @@ module _ {S K : Type 0} (outside : Outside S K) where
   -- what is left of an index behind what there is of it, and then its element
   abbrev pub index_rest : Indexing → List ℕ → State S → Outcome S
   index_rest x so_far state =
-      pieces_meaning (script_meaning outside x.room) (element_meaning (script_meaning outside x.room) x.depth) x.pieces so_far state (element_read x.name)
+      pieces_meaning (script_meaning outside x.room) (element_within (script_meaning outside x.room) x.depth) x.pieces so_far state (element_read x.name)
 
   abbrev pub loop_rest : ℕ → Loop → State S → Outcome S
   loop_rest room looping state = loop_meaning (script_meaning outside room) looping state

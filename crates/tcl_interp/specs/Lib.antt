@@ -3,6 +3,7 @@ pub mod Acts
 pub mod Advances
 pub mod Asked
 pub mod Course
+pub mod ElementLaws
 pub mod Evaluation
 pub mod Expressions
 pub mod Falls

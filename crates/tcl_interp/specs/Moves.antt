@@ -1,5 +1,5 @@
 -- Steps. The moves of the interpreter: what is done, what waits, the variables and the context after each.
-use Rattle.std.specs.Prelude.{ℕ, ◌-◌, ◌==◌, Bool, true, false, List, [], ◌∷◌, ◌++◌, length, nat_le, if◌then◌else◌, Option, Some, None, Result, Ok, Err}
+use Rattle.std.specs.Prelude.{ℕ, suc, ◌-◌, ◌==◌, Bool, true, false, List, [], ◌∷◌, ◌++◌, length, nat_le, if◌then◌else◌, Option, Some, None, Result, Ok, Err}
 use Rattle.tcl_words.specs.declared.script.Command.{Command}
 use Rattle.tcl_words.specs.declared.script.Word.{Word}
 use Rattle.tcl_words.specs.declared.script.Piece.{Piece}
@@ -32,11 +32,11 @@ use Rattle.tcl_control.specs.Texts.{limit_text, message, nesting_text, break_out
 use Rattle.tcl_control.specs.Loops.{Tested, More, NoMore, Fails as TestFails, items_tested}
 use Rattle.tcl_interp.specs.declared.tasks.Act.{Act}
 use Rattle.tcl_interp.specs.declared.tasks.Act.TheVariants.{Done, Step, Run, Unknown}
-use Rattle.tcl_interp.specs.Evaluation.{index_pieces, index_depth, words_of}
+use Rattle.tcl_interp.specs.Evaluation.{index_pieces, words_of}
 use Rattle.tcl_interp.specs.Plans.{with_first_levels, others, with_levels_behind, callers, procedure_code, procedure_text}
 use Rattle.tcl_interp.specs.Scripts.{out_of_global}
 use Rattle.tcl_interp.specs.Finish.{Wording, Indexing, Doing, Begins, GoesOn, Indexes, Evaluates, Calls, Tests, Steps, Resumes, Ends, Waiting, ForCommand, ForPart, ForIndex, ForValue, ForTest, ForChoice, ForBody, ForNext, ForStart, ForCatch, ForLevels, ForProcedure, ForScript, ForAll}
-use Rattle.tcl_text.specs.Limits.{most_bytes}
+use Rattle.tcl_text.specs.Limits.{most_bytes, most_nested}
 
 -- what is done, and what waits
 pub record Moved (K : Type 0) : Type 0 where
@@ -90,6 +90,11 @@ piece_end (Waits part) pieces so_far go = AtPart part pieces so_far
 abbrev pub word_end : ℕ → Store → List Piece → List ℕ → WordEnd
 word_end level store [] so_far = Whole so_far
 word_end level store (piece ∷ pieces) so_far = piece_end (piece_text level store piece) pieces so_far (word_end level store pieces)
+
+-- How many indices are gone down from a word. No more than `most_nested` of them stand in one another in any index that can be read, so no element
+-- comes to the end of this (`deep_enough`).
+unfoldable pub index_depth : ℕ
+index_depth = suc most_nested
 
 -- the words so far, and those that one more gives
 abbrev pub with_more_words : List (List ℕ) → Result (List (List ℕ)) (List ℕ) → Result (List (List ℕ)) (List ℕ)

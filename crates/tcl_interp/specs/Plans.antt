@@ -15,7 +15,7 @@ use Rattle.tcl_control.specs.Levels.{up, popped}
 use Rattle.tcl_control.specs.Texts.{break_outside, continue_outside}
 use Rattle.tcl_control.specs.Loops.{Tested, More, NoMore, Fails, items_tested}
 use Rattle.tcl_commands.specs.declared.groups.Group.{Group}
-use Rattle.tcl_interp.specs.Evaluation.{State, Outcome, Ended, OutOfSteps, seen_level, and_then, on_normal, with_step}
+use Rattle.tcl_interp.specs.Evaluation.{State, Outcome, Ended, OutOfSteps, seen_frame, and_then, on_normal, with_step}
 use Rattle.tcl_interp.specs.Expressions.{if_holds, expression_meaning, condition_meaning, choices_meaning}
 
 -- ── levels ──
@@ -78,7 +78,7 @@ ends_in state ending = Ended (record state { store = ending.store }) ending.code
 
 -- a script has ended whose code is answered
 abbrev pub caught : {S : Type 0} → Option (List ℕ) → State S → Code → List ℕ → Outcome S
-caught name state code text = ends_in state (caught_ending (seen_level state) name code text state.store)
+caught name state code text = ends_in state (caught_ending (seen_frame state) name code text state.store)
 
 -- ── loops ──
 
@@ -119,7 +119,7 @@ module _ {S : Type 0} (run : List ℕ → State S → Outcome S) where
   -- the test of a loop, given its body with what is tested after it
   abbrev pub test_meaning : Test → (Test → State S → Outcome S) → State S → Outcome S
   test_meaning (Holds condition) body state = condition_meaning run condition (if_holds (body (Holds condition)) loop_ended) state
-  test_meaning (Items groups) body state = on_tested state (λ left. body (Items left)) (items_tested (seen_level state) groups state.store)
+  test_meaning (Items groups) body state = on_tested state (λ left. body (Items left)) (items_tested (seen_frame state) groups state.store)
 
   -- the body of a loop, and what comes after it
   abbrev pub iteration_meaning : Loop → (State S → Outcome S) → State S → Outcome S

@@ -1,6 +1,7 @@
 //! A Tcl interpreter on a stack of its own, which can stop after any number of steps.
 #![tactic(auto)]
 
+mod element_laws;
 mod expressions;
 mod interp;
 mod job;
@@ -21,6 +22,7 @@ mod stopped;
 mod tasks;
 mod words;
 
+pub use element_laws::elements_are_read;
 pub use interp::{Interp, SliceEnd};
 pub use job::{Looked, Started, Task};
 pub use job_laws::{ends_looked, goes_on, steps_fall, unrolls};

@@ -3,7 +3,7 @@ ghost use Rattle.tcl_vars.specs.Store.{variable_in, element_in};
 ghost use Rattle.tcl_text.specs.Readings.{list_of};
 ghost use Rattle.tcl_control.specs.Source.{script_of};
 ghost use Rattle.tcl_control.specs.Texts.{element_name};
-ghost use Rattle.tcl_interp.specs.Evaluation.{index_depth, items_or_text, words_of};
+ghost use Rattle.tcl_interp.specs.Evaluation.{items_or_text, words_of};
 ghost use Rattle.tcl_control.specs.declared.code.Code.TheVariants.{Error};
 ghost use Rattle.tcl_interp.specs.Finish.{Begins, Ends};
 ghost use Rattle.tcl_interp.specs.Moves.{moved, with_more_words, piece_text, word_end, called_move, words_move, element_begins, element_end, indexes_move, longer_index, part_begins, part_move, word_part, go_on_move};
@@ -48,8 +48,8 @@ pub enum Put {
     },
 }
 
-/// How many indices stand in one another at most, in a script that can be read.
-const INDEX_DEPTH: u64 = MAX_DEPTH as u64;
+/// How many indices are gone down from a word: one more than stand in one another in any index that can be read.
+const INDEX_DEPTH: u64 = MAX_DEPTH as u64 + 1;
 
 /// A piece's value, where variables are those of a level.
 fn piece_value(
@@ -481,7 +481,7 @@ fn part_begins<K: Drop>(alloc: Global, room: u64, depth: u64, part: Part) -> Nex
 }
 
 /// A part of the words of the command that is next is to be evaluated.
-#[tactic(auto, unfolding(crate::specs::Evaluation::index_depth))]
+#[tactic(auto, unfolding(crate::specs::Moves::index_depth))]
 fn word_part<K: Drop>(
     alloc: Global,
     frames: &mut Vec<Frame<K>>,

@@ -12,7 +12,7 @@ use Rattle.tk_app.specs.Seen.{Seen}
 use Rattle.tcl_text.specs.Limits.{most_running}
 
 -- The windows of the state are numbered as they were made, each behind its parent, none above the next number, and there are at most as many as the limit.
--- An application's are so, from its beginning on (`StaysSound`); in other lists of windows a layout might never come to rest, so the equations are of
+-- An application's are so, from its beginning on (`StaysSound`), and of such windows it is known that their layout comes to rest; so the equations are of
 -- these. What meets an equation in all states meets it in these.
 abbrev pub IsSoundIn : State Seen → Type 0
 IsSoundIn state = IsSound state.shows.panel.windowing.tree

@@ -433,6 +433,17 @@ uplevel #0 {set a 1}
 switch -exact -- $mode {on - off {turn 1}}
 if {$by > 2 && ![winfo exists .f]} {turn 1} elseif {$by} then {turn 2} else {turn 3}
 """
+# Scripts that can't be read, and what is told of each.
+UNREADABLE = [
+    ("open.tcl", "set a 1\nproc work {} {\n    if {1} {\n    set b 2\n}\n", "open.tcl:2: missing close-brace"),
+    ("near.tcl", "set a 1\nproc work {} {\n    if {1} {\n    }else {\n    }\n}\n", "near.tcl:4: extra characters after close-brace"),
+    # A line that goes on in the next one, as a command, as a comment and behind one that was open.
+    ("on.tcl", 'set a {\n}\nset b \\\n# "c"x\nset d 1\n', "on.tcl:4: extra characters after close-quote"),
+    ("comment.tcl", '# one \\\n"two"x\nset a {\n', "comment.tcl:3: missing close-brace"),
+    ("backslash.tcl", 'set a \\\\\n# "b"x\nset c {\n', "backslash.tcl:3: missing close-brace"),
+    # Each command can be read, and the whole is too long.
+    ("long.tcl", "set a {\n}\n" + "".join(f"set name{number:04} {number:04}\n" for number in range(4000)), "long.tcl:1: limit reached: value: a script has at most 65,536 bytes"),
+]
 
 
 def linted(runs):
@@ -452,7 +463,7 @@ def linted(runs):
     runs.add(["lint", f"{room.name}/wrong.tcl"], tells)
     runs.add(["lint", f"{room.name}/right.tcl"], lambda status, text: see((status, text) == (0, ""), f"lint of a script with no mistake: {status}\n{text}"))
     runs.add(["lint", *(f"{room.name}/{name}" for name in benches())], lambda status, text: see((status, text) == (0, ""), f"lint of the benches: {status}\n{text}"))
-    for file, text, words in (("open.tcl", "set a 1\nproc work {} {\n    if {1} {\n    set b 2\n}\n", "open.tcl:2: missing close-brace"), ("near.tcl", "set a 1\nproc work {} {\n    if {1} {\n    }else {\n    }\n}\n", "near.tcl:4: extra characters after close-brace")):
+    for file, text, words in UNREADABLE:
         (room / file).write_text(text)
         runs.add(["lint", f"{room.name}/{file}"], lambda status, said, words=words: see(status == 1 and words in said and said.count("\n") == 1, f"lint of a script that can't be read: {status} {said}"))
     runs.add(["lint", "none.tcl"], lambda status, text: see(status == 2 and "none.tcl can't be read" in text, f"lint of no file: {status} {text}"))

@@ -3,11 +3,12 @@ use Rattle.std.proofs.Common.{◌≡◌, ℕ, zero, suc, ◌+◌, ◌-◌, ◌<�
 use Rattle.std.proofs.Math.Seq.{drop-nil, take-nil}
 use Rattle.std.proofs.lemmas.List.{drop_all, drop_more, reverse-append}
 use Rattle.std.specs.Prelude.{IfSome, find, nat_lt, replicate}
-use Rattle.std.specs.Option.{unwrap_or}
 use Rattle.tcl_text.specs.declared.fault.ParseFault.{ParseFault}
 use Rattle.panels_text.specs.Indents.{bare, closed_in, closing, displaced, indent_of, is_displaced, open_behind}
 use Rattle.panels_text.specs.Places.{later_line, numbered}
-use Rattle.panels_text.specs.Unread.{Misread, begins_behind, begun, fault_of, faults_behind, first_or, last_or, lasting, lasting_in, misread_at, told_at, unclosed, up_to}
+use Rattle.panels_text.specs.Unread.{Misread, beginnings, begins_behind, begun, first_or, last_or, lasting, lasting_in, misread_at, standing_at, standing_behind, told_at, told_of, up_to}
+use Rattle.panels_text.specs.declared.fault_place.Standing.{Standing}
+use Rattle.panels_text.specs.declared.fault_place.Standing.TheVariants.{Faulty, GoesOn, Whole}
 use Rattle.panels_text.specs.declared.indents.Opened.{Opened}
 
 -- what is left of lines that are gone through
@@ -139,53 +140,52 @@ displaced_end number braces left all none same =
 
 -- ---- a script that is read line by line
 
--- what is told of what is left of a script: behind this text, where the last command begins in this line and this was the last fault
-abbrev pub misread_from : (ParseFault → List ℕ) → ℕ → ℕ → List ℕ → ParseFault → List (List ℕ) → Misread
-misread_from words number begun_at text last lines =
-    first_or (unclosed words begun_at last (numbered number (faults_behind text lines))) (lasting_in (numbered number (faults_behind text lines)))
-
--- the text up to the next line has this fault
-abbrev misread_on : (ParseFault → List ℕ) → ℕ → ℕ → List ℕ → ParseFault → List (List ℕ) → Option ParseFault → Misread
-misread_on words number begun_at text last lines fault =
-    let rest = (number, fault) ∷ numbered (later_line number) (faults_behind (begun fault text) lines) in
-    first_or (unclosed words begun_at last rest) (lasting_in rest)
+-- what is told of what is left of a script: behind this text, where the last command begins in this line and stands so, and its end says this
+abbrev pub misread_from : (ℕ → Standing → Misread) → ℕ → ℕ → List ℕ → Standing → List (List ℕ) → Misread
+misread_from ending number begun_at text last lines = told_of ending begun_at last (numbered number (standing_behind text lines))
 
 -- a fault that lasts is told
-pub misread_hit : (words : ParseFault → List ℕ) (number begun_at : ℕ) (text : List ℕ) (last : ParseFault) (line : List ℕ) (left lines : List (List ℕ)) (fault : ParseFault) (all : Misread) → left ≡ line ∷ lines
-    → Some fault ≡ lasting (fault_of (up_to text line)) → misread_from words number begun_at text last left ≡ all → misread_at number fault ≡ all
-misread_hit words number begun_at text last line left lines fault all here is same =
-    let P : List (List ℕ) → Type 0 = λ left. misread_from words number begun_at text last left ≡ all in
-    let behind = up_to text line in
-    let rest = numbered (later_line number) (faults_behind (begun (fault_of behind) behind) lines) in
-    let Q : Option ParseFault → Type 0 = λ found. first_or (unclosed words begun_at last ((number, fault_of behind) ∷ rest)) (told_at number found ++ lasting_in rest) ≡ all in
+pub misread_hit : (ending : ℕ → Standing → Misread) (number begun_at : ℕ) (text : List ℕ) (last : Standing) (line : List ℕ) (left lines : List (List ℕ)) (fault : ParseFault) (all : Misread) → left ≡ line ∷ lines
+    → Some fault ≡ lasting (standing_at text line) → misread_from ending number begun_at text last left ≡ all → misread_at number fault ≡ all
+misread_hit ending number begun_at text last line left lines fault all here is same =
+    let P : List (List ℕ) → Type 0 = λ left. misread_from ending number begun_at text last left ≡ all in
+    let behind = standing_at text line in
+    let rest = numbered (later_line number) (standing_behind (begun behind (up_to text line)) lines) in
+    let at = last_or begun_at (beginnings ((number, behind) ∷ rest)) in
+    let Q : Option ParseFault → Type 0 = λ found. first_or (ending at (last_or behind (map (λ (own : ℕ × Standing). own.1) rest))) (told_at number found ++ lasting_in rest) ≡ all in
     subst Q (sym is) (subst P here same)
 
-misread_by : (words : ParseFault → List ℕ) (number begun_at : ℕ) (text : List ℕ) (last : ParseFault) (lines : List (List ℕ)) (fault : Option ParseFault) → None ≡ lasting fault
-    → misread_on words number begun_at text last lines fault ≡ misread_from words (later_line number) (last_or begun_at (begins_behind number fault)) (begun fault text) (unwrap_or fault last) lines
-misread_by words number begun_at text last lines None is = refl
-misread_by words number begun_at text last lines (Some fault) is =
-    let rest = numbered (later_line number) (faults_behind text lines) in
-    let P : Option ParseFault → Type 0 = λ found. first_or (unclosed words begun_at last ((number, Some fault) ∷ rest)) (told_at number found ++ lasting_in rest) ≡ misread_from words (later_line number) begun_at text fault lines in
+-- the text up to the next line stands so, and has no fault that lasts
+misread_by : (ending : ℕ → Standing → Misread) (number begun_at : ℕ) (text : List ℕ) (last : Standing) (lines : List (List ℕ)) (own : Standing) → None ≡ lasting own
+    → told_of ending begun_at last ((number, own) ∷ numbered (later_line number) (standing_behind (begun own text) lines))
+    ≡ misread_from ending (later_line number) (last_or begun_at (begins_behind number own)) (begun own text) own lines
+misread_by ending number begun_at text last lines Whole is = refl
+misread_by ending number begun_at text last lines GoesOn is = refl
+misread_by ending number begun_at text last lines (Faulty fault) is =
+    let rest = numbered (later_line number) (standing_behind text lines) in
+    let at = last_or begun_at (beginnings rest) in
+    let P : Option ParseFault → Type 0 = λ found.
+    first_or (ending at (last_or (Faulty fault) (map (λ (own : ℕ × Standing). own.1) rest))) (told_at number found ++ lasting_in rest) ≡ misread_from ending (later_line number) begun_at text (Faulty fault) lines in
     subst P is refl
 
 -- and behind another, or none, what is left decides
-pub misread_miss : (words : ParseFault → List ℕ) (number next begun_at begun_next : ℕ) (text text_next : List ℕ) (last last_next : ParseFault) (line : List ℕ) (left lines : List (List ℕ)) (all : Misread) → left ≡ line ∷ lines
-    → None ≡ lasting (fault_of (up_to text line)) → next ≡ later_line number → begun_next ≡ last_or begun_at (begins_behind number (fault_of (up_to text line)))
-    → text_next ≡ begun (fault_of (up_to text line)) (up_to text line) → last_next ≡ unwrap_or (fault_of (up_to text line)) last
-    → misread_from words number begun_at text last left ≡ all → misread_from words next begun_next text_next last_next lines ≡ all
-misread_miss words number next begun_at begun_next text text_next last last_next line left lines all here is one two three four same =
-    let P : List (List ℕ) → Type 0 = λ left. misread_from words number begun_at text last left ≡ all in
-    let fault = fault_of (up_to text line) in
-    ap (λ n. misread_from words n begun_next text_next last_next lines) one
-    ∙ ap (λ n. misread_from words (later_line number) n text_next last_next lines) two
-    ∙ ap (λ t. misread_from words (later_line number) (last_or begun_at (begins_behind number fault)) t last_next lines) three
-    ∙ ap (λ f. misread_from words (later_line number) (last_or begun_at (begins_behind number fault)) (begun fault (up_to text line)) f lines) four
-    ∙ sym (misread_by words number begun_at (up_to text line) last lines fault is)
+pub misread_miss : (ending : ℕ → Standing → Misread) (number next begun_at begun_next : ℕ) (text text_next : List ℕ) (last last_next : Standing) (line : List ℕ) (left lines : List (List ℕ)) (all : Misread) → left ≡ line ∷ lines
+    → None ≡ lasting (standing_at text line) → next ≡ later_line number → begun_next ≡ last_or begun_at (begins_behind number (standing_at text line))
+    → text_next ≡ begun (standing_at text line) (up_to text line) → last_next ≡ standing_at text line
+    → misread_from ending number begun_at text last left ≡ all → misread_from ending next begun_next text_next last_next lines ≡ all
+misread_miss ending number next begun_at begun_next text text_next last last_next line left lines all here is one two three four same =
+    let P : List (List ℕ) → Type 0 = λ left. misread_from ending number begun_at text last left ≡ all in
+    let own = standing_at text line in
+    ap (λ n. misread_from ending n begun_next text_next last_next lines) one
+    ∙ ap (λ n. misread_from ending (later_line number) n text_next last_next lines) two
+    ∙ ap (λ t. misread_from ending (later_line number) (last_or begun_at (begins_behind number own)) t last_next lines) three
+    ∙ ap (λ s. misread_from ending (later_line number) (last_or begun_at (begins_behind number own)) (begun own (up_to text line)) s lines) four
+    ∙ sym (misread_by ending number begun_at (up_to text line) last lines own is)
     ∙ subst P here same
 
 -- no line is left
-pub misread_end : (words : ParseFault → List ℕ) (number begun_at : ℕ) (text : List ℕ) (last : ParseFault) (left : List (List ℕ)) (all : Misread) → left ≡ [] → misread_from words number begun_at text last left ≡ all
-    → record { line = begun_at; words = words last } ≡ all
-misread_end words number begun_at text last left all none same =
-    let P : List (List ℕ) → Type 0 = λ left. misread_from words number begun_at text last left ≡ all in
+pub misread_end : (ending : ℕ → Standing → Misread) (number begun_at : ℕ) (text : List ℕ) (last : Standing) (left : List (List ℕ)) (all : Misread) → left ≡ [] → misread_from ending number begun_at text last left ≡ all
+    → ending begun_at last ≡ all
+misread_end ending number begun_at text last left all none same =
+    let P : List (List ℕ) → Type 0 = λ left. misread_from ending number begun_at text last left ≡ all in
     subst P none same

@@ -1,11 +1,11 @@
 -- Meaning. Which scripts can't be read, and where they are at fault.
-use Rattle.std.specs.Prelude.{ℕ, Bool, true, false, not, if◌then◌else◌, List, [], ◌∷◌, ◌++◌, flat_map, codes, Option, Some, None, is_ok, Result, Ok, Err}
+use Rattle.std.specs.Prelude.{ℕ, ◌%◌, ◌==◌, Bool, true, false, if◌then◌else◌, List, [], ◌∷◌, ◌++◌, map, flat_map, codes, Option, Some, None, is_ok, Result, Ok, Err}
 use Rattle.std.specs.Fmt.{decimal}
-use Rattle.std.specs.Option.{option_to_list}
+use Rattle.std.specs.List.{suffix_len}
 use Rattle.std.specs.String.{string_bytes}
 use Rattle.tcl_text.specs.FaultTexts.{parse_text}
 use Rattle.tcl_text.specs.declared.fault.ParseFault.{ParseFault}
-use Rattle.tcl_text.specs.declared.fault.ParseFault.TheVariants.{MissingBrace, MissingBracket, MissingQuote, MissingParen}
+use Rattle.tcl_text.specs.declared.fault.ParseFault.TheVariants.{MissingBrace, MissingBracket, MissingQuote, MissingParen, TooLong}
 use Rattle.tcl_words.specs.Reading.{commands_of}
 use Rattle.tcl_words.specs.declared.script.Command.{Command}
 use Rattle.panels_text.specs.Indents.{displaced}
@@ -15,6 +15,8 @@ use Rattle.panels_text.specs.Texts.{lines_of}
 use Rattle.panels_text.specs.declared.calls.Form.{Form}
 use Rattle.panels_text.specs.declared.calls.Form.TheVariants.{Commands, Condition, Cases}
 use Rattle.panels_text.specs.declared.calls.Unread.{Unread}
+use Rattle.panels_text.specs.declared.fault_place.Standing.{Standing}
+use Rattle.panels_text.specs.declared.fault_place.Standing.TheVariants.{Faulty, GoesOn, Whole}
 
 -- that a script can't be read: the line that it is told of, and the words
 pub record Misread : Type 0 where
@@ -42,30 +44,43 @@ may_close MissingQuote = true
 may_close MissingParen = true
 may_close fault = false
 
--- a fault that no later line mends
-abbrev pub lasting : Option ParseFault → Option ParseFault
-lasting None = None
-lasting (Some fault) = if may_close fault then None else Some fault
-
 -- ---- line by line
 
--- what the next line is read behind: nothing behind a script, and else the text with this fault
-abbrev pub begun : Option ParseFault → List ℕ → List ℕ
-begun None text = []
-begun (Some fault) text = text
+-- a line goes on in the next one where it ends with an odd number of backslashes
+abbrev pub goes_on : List ℕ → Bool
+goes_on line = suffix_len (λ byte. byte == 92) line % 2 == 1
+
+-- how a text stands that has this fault, or none, and whose last line goes on or not
+abbrev pub stands : Bool → Option ParseFault → Standing
+stands on (Some fault) = Faulty fault
+stands on None = if on then GoesOn else Whole
+
+-- a fault that no later line mends
+abbrev pub lasting : Standing → Option ParseFault
+lasting (Faulty fault) = if may_close fault then None else Some fault
+lasting _ = None
+
+-- what the next line is read behind: nothing where a command begins with it, and else the text
+abbrev pub begun : Standing → List ℕ → List ℕ
+begun Whole text = []
+begun _ text = text
 
 -- the text up to a line, behind this one
 abbrev pub up_to : List ℕ → List ℕ → List ℕ
 up_to text line = (text ++ line) ++ 10 ∷ []
 
--- of each line the fault of the text up to it, from behind the last of those that are scripts; the first of the lines stands behind this text
-abbrev pub faults_behind : List ℕ → List (List ℕ) → List (Option ParseFault)
-faults_behind text [] = []
-faults_behind text (line ∷ lines) = fault_of (up_to text line) ∷ faults_behind (begun (fault_of (up_to text line)) (up_to text line)) lines
+-- how the text up to a line stands
+abbrev pub standing_at : List ℕ → List ℕ → Standing
+standing_at text line = stands (goes_on line) (fault_of (up_to text line))
 
--- the lines of a script with their faults, where the first has this number
-abbrev pub faults_of : ℕ → List ℕ → List (ℕ × Option ParseFault)
-faults_of first script = numbered first (faults_behind [] (lines_of script))
+-- the same of each line, from behind the last one at which nothing is open; the first of the lines stands behind this text
+abbrev pub standing_behind : List ℕ → List (List ℕ) → List Standing
+standing_behind text [] = []
+standing_behind text (line ∷ lines) = standing_at text line ∷ standing_behind (begun (standing_at text line) (up_to text line)) lines
+
+-- the lines of a script, each with how the text up to it stands, where the first has this number
+abbrev pub standing_in : ℕ → List ℕ → List (ℕ × Standing)
+standing_in first script = numbered first (standing_behind [] (lines_of script))
 
 -- ---- what is told
 
@@ -85,19 +100,16 @@ told_at number None = []
 told_at number (Some fault) = misread_at number fault ∷ []
 
 -- the faults that no later line mends, each with its line
-abbrev pub lasting_in : List (ℕ × Option ParseFault) → List Misread
-lasting_in lines = flat_map (λ (line : ℕ × Option ParseFault). told_at line.0 (lasting line.1)) lines
+abbrev pub lasting_in : List (ℕ × Standing) → List Misread
+lasting_in lines = flat_map (λ (line : ℕ × Standing). told_at line.0 (lasting line.1)) lines
 
-abbrev pub begins_behind : ℕ → Option ParseFault → List ℕ
-begins_behind number None = later_line number ∷ []
-begins_behind number (Some fault) = []
+abbrev pub begins_behind : ℕ → Standing → List ℕ
+begins_behind number Whole = later_line number ∷ []
+begins_behind number _ = []
 
--- the lines with which something begins behind a script
-abbrev pub beginnings : List (ℕ × Option ParseFault) → List ℕ
-beginnings lines = flat_map (λ (line : ℕ × Option ParseFault). begins_behind line.0 line.1) lines
-
-abbrev pub faults_in : List (ℕ × Option ParseFault) → List ParseFault
-faults_in lines = flat_map (λ (line : ℕ × Option ParseFault). option_to_list line.1) lines
+-- the lines with which something begins behind a whole command
+abbrev pub beginnings : List (ℕ × Standing) → List ℕ
+beginnings lines = flat_map (λ (line : ℕ × Standing). begins_behind line.0 line.1) lines
 
 -- the line of the brace that is never closed, by where lines stand
 abbrev pub brace_of : ParseFault → ℕ → List ℕ → Option ℕ
@@ -111,14 +123,29 @@ brace_words (Some line) = codes "; by where the lines stand it is the brace of l
 abbrev pub unclosed_words : ParseFault → Option ℕ → List ℕ
 unclosed_words fault brace = parse_text fault ++ (codes ": what this command opens is never closed" ++ brace_words brace)
 
--- what is told of lines with these faults, of which none may last: of the line with which the last command begins, in these words of the last fault
-abbrev pub unclosed : (ParseFault → List ℕ) → ℕ → ParseFault → List (ℕ × Option ParseFault) → Misread
-unclosed words first fault lines = record { line = last_or first (beginnings lines); words = words (last_or fault (faults_in lines)) }
+-- what there is to know of a fault that a script has as a whole
+abbrev pub most_words : ParseFault → List ℕ
+most_words TooLong = codes ": a script has at most 65,536 bytes"
+most_words fault = []
 
--- what is told of a script that can't be read, whose first line has this number: the first fault that no later line mends, and else what is never closed
+abbrev pub whole_words : Option ParseFault → List ℕ
+whole_words None = []
+whole_words (Some fault) = parse_text fault ++ most_words fault
+
+-- what is told at the end, where the last command begins in this line: that it is never closed, and where nothing is open the script's own fault,
+-- at the line with which the script begins
+abbrev pub at_end : ℕ → List ℕ → ℕ → Standing → Misread
+at_end first script begun_at (Faulty fault) = record { line = begun_at; words = unclosed_words fault (brace_of fault first script) }
+at_end first script begun_at _ = record { line = first; words = whole_words (fault_of script) }
+
+-- what is told of lines that stand so, behind a command that begins in this line and stands so: the first fault that no later line mends, and else what
+-- their end says
+abbrev pub told_of : (ℕ → Standing → Misread) → ℕ → Standing → List (ℕ × Standing) → Misread
+told_of ending begun_at last lines = first_or (ending (last_or begun_at (beginnings lines)) (last_or last (map (λ (line : ℕ × Standing). line.1) lines))) (lasting_in lines)
+
+-- what is told of a script that can't be read, whose first line has this number
 abbrev pub misread_in : ℕ → List ℕ → Misread
-misread_in first script =
-    first_or (unclosed (λ fault. unclosed_words fault (brace_of fault first script)) first MissingBrace (faults_of first script)) (lasting_in (faults_of first script))
+misread_in first script = told_of (at_end first script) first Whole (standing_in first script)
 
 -- ---- scripts in one another
 

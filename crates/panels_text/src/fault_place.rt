@@ -1,10 +1,9 @@
 //! Where a script that can't be read is at fault.
 
-ghost use Rattle.std.specs.Prelude.{◌≡◌, ◌++◌, IfNone, IfOk, IfSome};
-ghost use Rattle.std.specs.Option.{unwrap_or};
+ghost use Rattle.std.specs.Prelude.{◌≡◌, ◌==◌, IfOk};
+ghost use Rattle.std.specs.List.{suffix_len};
 ghost use Rattle.std.specs.String.{string_bytes};
-ghost use Rattle.panels_text.specs.Places.{later_line};
-ghost use Rattle.panels_text.specs.Unread.{begins_behind, begun, brace_of, fault_of, last_or, lasting, may_close, misread, misread_at, misread_in, unclosed_words, up_to};
+ghost use Rattle.panels_text.specs.Unread.{at_end, brace_of, fault_of, goes_on, lasting, may_close, misread, misread_at, misread_in, most_words, stands, unclosed_words, whole_words};
 
 use crate::calls::Unread;
 use crate::indents::displaced;
@@ -12,6 +11,17 @@ use crate::texts::byte_lines;
 use std::alloc::{AllocError, Global};
 use tcl_text::ParseFault;
 use tcl_words::parse;
+
+/// How a text stands behind a line.
+#[derive(Clone, Copy, Drop)]
+enum Standing {
+    /// Nothing is open: a command begins with the next line.
+    Whole,
+    /// It has no fault, and its last line goes on in the next one.
+    GoesOn,
+    /// It has this fault.
+    Faulty(ParseFault),
+}
 
 /// How far a script is read, line by line.
 #[derive(Drop)]
@@ -22,8 +32,8 @@ struct Front {
     begun_at: usize,
     /// What stands of that command.
     text: Vec<u8>,
-    /// The last fault that a later line may mend.
-    last: ParseFault,
+    /// How that stands.
+    last: Standing,
 }
 
 /// Whether what lacks may come in a later line.
@@ -51,13 +61,41 @@ fn fault_of(alloc: Global, text: &[u8]) -> Result<Option<ParseFault>, AllocError
     }
 }
 
-/// A fault that no later line mends.
-fn lasting(fault: Option<ParseFault>) -> Option<ParseFault>
-    ensures { result ≡ lasting fault }
+/// How many backslashes a line ends with.
+fn backslashes(row: &[u8]) -> usize
+    ensures { result ≡ suffix_len (λ byte. byte == 92) row.now }
+{
+    row.iter().rev().take_while(|byte| **byte == b'\\').count()
+}
+
+/// Whether a line goes on in the next one.
+fn goes_on(row: &[u8]) -> bool
+    ensures { result ≡ goes_on row.now }
+{
+    backslashes(row) % 2 == 1
+}
+
+/// How a text with this fault stands, whose last line goes on or not.
+fn stands(on: bool, fault: Option<ParseFault>) -> Standing
+    ensures { result ≡ stands on fault }
 {
     match fault {
-        None => None,
-        Some(fault) => if may_close(&fault) { None } else { Some(fault) },
+        Some(fault) => Standing::Faulty(fault),
+        None => if on {
+            Standing::GoesOn
+        } else {
+            Standing::Whole
+        },
+    }
+}
+
+/// A fault that no later line mends.
+fn lasting(standing: Standing) -> Option<ParseFault>
+    ensures { result ≡ lasting standing }
+{
+    match standing {
+        Standing::Faulty(fault) => if may_close(&fault) { None } else { Some(fault) },
+        _ => None,
     }
 }
 
@@ -101,45 +139,107 @@ fn unclosed_words(
     }
 }
 
+/// That a command, which begins in this line, opens what it never closes.
+fn unclosed(
+    alloc: Global,
+    fault: &ParseFault,
+    begun_at: usize,
+    first: usize,
+    script: &[u8],
+) -> Result<Unread, AllocError>
+    ensures { IfOk result (λ told. misread told ≡ record { line = begun_at; words = unclosed_words fault.now (brace_of fault.now first script.now) }) }
+{
+    let brace = brace_of(alloc, fault, first, script)?;
+    let fault = unclosed_words(alloc, fault, brace)?;
+    Ok(Unread {
+        line: begun_at,
+        fault,
+    })
+}
+
+/// What there is to know of a fault that a script has as a whole.
+fn most_words(fault: &ParseFault) -> &'static str
+    ensures { result.now ≡ most_words fault.now }
+{
+    match fault {
+        ParseFault::TooLong => ": a script has at most 65,536 bytes",
+        _ => "",
+    }
+}
+
+/// The fault of a script as a whole, in words.
+fn whole_words(alloc: Global, fault: Option<ParseFault>) -> Result<String, AllocError>
+    ensures { IfOk result (λ text. string_bytes text ≡ whole_words fault) }
+{
+    match fault {
+        None => Ok(String::new(alloc)),
+        Some(fault) => {
+            let (words, most) = (fault.text(), most_words(&fault));
+            format!(in alloc; "{words}{most}")
+        }
+    }
+}
+
+/// What is told at the end of a script, whose last command begins in this line.
+fn at_end(
+    alloc: Global,
+    first: usize,
+    script: &[u8],
+    begun_at: usize,
+    last: Standing,
+) -> Result<Unread, AllocError>
+    ensures { IfOk result (λ told. misread told ≡ at_end first script.now begun_at last) }
+{
+    match last {
+        Standing::Faulty(fault) => unclosed(alloc, &fault, begun_at, first, script),
+        _ => {
+            let fault = fault_of(alloc, script)?;
+            let fault = whole_words(alloc, fault)?;
+            Ok(Unread { line: first, fault })
+        }
+    }
+}
+
 impl Front {
     ghost use Rattle.std.specs.Prelude.{◌≡◌, IfNone, IfOk, IfSome};
-    ghost use Rattle.std.specs.Option.{unwrap_or};
     ghost use Rattle.panels_text.specs.Places.{later_line};
-    ghost use Rattle.panels_text.specs.Unread.{begins_behind, begun, fault_of, last_or, lasting, up_to};
+    ghost use Rattle.panels_text.specs.Unread.{begins_behind, begun, last_or, lasting, standing_at, up_to};
 
-    /// Goes on behind a line up to which the text has this fault.
-    fn go_on(&mut self, fault: Option<ParseFault>)
+    /// Goes on behind a line up to which the text stands so.
+    fn go_on(&mut self, standing: Standing)
         ensures number { self.new.number ≡ later_line self.old.number }
-        ensures begun_at { self.new.begun_at ≡ last_or self.old.begun_at (begins_behind self.old.number fault) }
-        ensures text { self.new.text.items ≡ begun fault self.old.text.items }
-        ensures last { self.new.last ≡ unwrap_or fault self.old.last }
+        ensures begun_at { self.new.begun_at ≡ last_or self.old.begun_at (begins_behind self.old.number standing) }
+        ensures text { self.new.text.items ≡ begun standing self.old.text.items }
+        ensures last { self.new.last ≡ standing }
     {
         self.number = self.number.saturating_add(1);
-        match fault {
-            None => {
+        self.last = standing;
+        match standing {
+            Standing::Whole => {
                 self.text.clear();
                 self.begun_at = self.number;
             }
-            Some(fault) => self.last = fault,
+            _ => {}
         }
     }
 
     /// Reads a line: the fault that no later one mends.
     fn read(&mut self, alloc: Global, row: &[u8]) -> Result<Option<ParseFault>, AllocError>
-        ensures found { IfOk result (λ found. found ≡ lasting (fault_of (up_to self.old.text.items row.now))) }
+        ensures found { IfOk result (λ found. found ≡ lasting (standing_at self.old.text.items row.now)) }
         ensures same { IfOk result (λ found. IfSome found (λ _. self.new.number ≡ self.old.number)) }
         ensures number { IfOk result (λ found. IfNone found (self.new.number ≡ later_line self.old.number)) }
-        ensures begun_at { IfOk result (λ found. IfNone found (self.new.begun_at ≡ last_or self.old.begun_at (begins_behind self.old.number (fault_of (up_to self.old.text.items row.now))))) }
-        ensures text { IfOk result (λ found. IfNone found (self.new.text.items ≡ begun (fault_of (up_to self.old.text.items row.now)) (up_to self.old.text.items row.now))) }
-        ensures last { IfOk result (λ found. IfNone found (self.new.last ≡ unwrap_or (fault_of (up_to self.old.text.items row.now)) self.old.last)) }
+        ensures begun_at { IfOk result (λ found. IfNone found (self.new.begun_at ≡ last_or self.old.begun_at (begins_behind self.old.number (standing_at self.old.text.items row.now)))) }
+        ensures text { IfOk result (λ found. IfNone found (self.new.text.items ≡ begun (standing_at self.old.text.items row.now) (up_to self.old.text.items row.now))) }
+        ensures last { IfOk result (λ found. IfNone found (self.new.last ≡ standing_at self.old.text.items row.now)) }
     {
         self.text.extend_from_slice(row)?;
         self.text.push(b'\n')?;
         let fault = fault_of(alloc, self.text.as_slice())?;
-        match lasting(fault) {
+        let standing = stands(goes_on(row), fault);
+        match lasting(standing) {
             Some(found) => Ok(Some(found)),
             None => {
-                self.go_on(fault);
+                self.go_on(standing);
                 Ok(None)
             }
         }
@@ -147,7 +247,7 @@ impl Front {
 }
 
 /// Where a script that can't be read is at fault, whose first line is this one: the line up to which what can't be mended stands; or the first one of the
-/// command that is never closed.
+/// command that is never closed; or where nothing is open at the end, this line.
 pub(crate) fn fault_place(alloc: Global, script: &[u8], line: usize) -> Result<Unread, AllocError>
     ensures { IfOk result (λ told. misread told ≡ misread_in line script.now) }
 {
@@ -156,7 +256,7 @@ pub(crate) fn fault_place(alloc: Global, script: &[u8], line: usize) -> Result<U
         number: line,
         begun_at: line,
         text: Vec::new(alloc),
-        last: ParseFault::MissingBrace,
+        last: Standing::Whole,
     };
     for row in &rows {
         let found = front.read(alloc, *row)?;
@@ -168,8 +268,6 @@ pub(crate) fn fault_place(alloc: Global, script: &[u8], line: usize) -> Result<U
             None => {}
         }
     }
-    let brace = brace_of(alloc, &front.last, line, script)?;
-    let fault = unclosed_words(alloc, &front.last, brace)?;
-    let line = front.begun_at;
-    Ok(Unread { line, fault })
+    let told = at_end(alloc, line, script, front.begun_at, front.last)?;
+    Ok(told)
 }

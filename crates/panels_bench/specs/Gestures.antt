@@ -18,7 +18,6 @@ use Rattle.panels.specs.declared.bench.Gesture.TheVariants.{Pointer, Keys, Lines
 use Rattle.panels.specs.declared.bench.Target.{Target}
 use Rattle.panels.specs.declared.bench.Touch.{Touch}
 use Rattle.panels.specs.declared.bench.Touch.TheVariants.{Click, DoubleClick, Press, Release, Move}
-use Rattle.panels_bench.specs.declared.doing.TheConstants.{DRAG_KEYS, KEYS, POINTER_KEYS, RECT_KEYS, WAYS}
 use Rattle.panels_bench.specs.declared.doing.Way.{Way}
 use Rattle.panels_bench.specs.declared.doing.Way.TheVariants.{Touches, Drags, Types, Strikes, Focuses, Places, Tells}
 use Rattle.panels_bench.specs.Values.{all_said, are_known, counted, flag_if, if_there, number_if, one, rect_in, slot_in, slot_named, table_if, text_if, text_in}
@@ -83,8 +82,11 @@ dropping_in panels members = do
   button ← counted 1 5 (get_member (codes "button") members)
   Some (PointerDeed target moves Release button false)
 
+unfoldable pub pointer_keys : List (List ℕ)
+pointer_keys = codes "panel" ∷ codes "window" ∷ codes "x" ∷ codes "y" ∷ codes "button" ∷ codes "focus" ∷ []
+
 abbrev pub touch_in : List AppBlock → Touch → Option Data → Option (List Deed)
-touch_in panels touch value = table_if (map (λ key. key.now) POINTER_KEYS) value >>= if_there (λ members. one (pointing_in panels touch members))
+touch_in panels touch value = table_if pointer_keys value >>= if_there (λ members. one (pointing_in panels touch members))
 
 -- a drag is a press, and moves that end in a release
 abbrev pub dragged : List AppBlock → Members → Option (List Deed)
@@ -93,8 +95,12 @@ dragged panels members = do
   drop ← dropping_in panels members
   Some (press ∷ drop ∷ [])
 
+unfoldable pub drag_keys : List (List ℕ)
+drag_keys =
+    codes "panel" ∷ codes "window" ∷ codes "x" ∷ codes "y" ∷ codes "to" ∷ codes "to-x" ∷ codes "to-y" ∷ codes "moves" ∷ codes "button" ∷ codes "focus" ∷ []
+
 abbrev pub drag_in : List AppBlock → Option Data → Option (List Deed)
-drag_in panels value = table_if (map (λ key. key.now) DRAG_KEYS) value >>= if_there (dragged panels)
+drag_in panels value = table_if drag_keys value >>= if_there (dragged panels)
 
 -- ---- keys
 
@@ -152,8 +158,11 @@ placing_of panels members = do
   rect ← rect_in members
   Some (Placed slot rect)
 
+unfoldable pub rect_keys : List (List ℕ)
+rect_keys = codes "panel" ∷ codes "at" ∷ codes "size" ∷ []
+
 abbrev pub placing_in : List AppBlock → Option Data → Option (List Deed)
-placing_in panels value = table_if (map (λ key. key.now) RECT_KEYS) value >>= if_there (λ members. told (placing_of panels members))
+placing_in panels value = table_if rect_keys value >>= if_there (λ members. told (placing_of panels members))
 
 -- a line names no panel that isn't there
 abbrev pub if_panel : ℕ → ℕ → HostLine → Option HostLine
@@ -198,7 +207,28 @@ deeds_by panels Tells value = line_in panels value
 abbrev pub deeds_at : List AppBlock → Members → List ℕ → Way → Option (List Deed)
 deeds_at panels members key way = deeds_by panels way (get_member key members)
 
+-- the keys by which something is done, and how
+unfoldable pub ways : List (List ℕ × Way)
+ways =
+    (codes "click", Touches Click) ∷
+    (codes "double-click", Touches DoubleClick) ∷
+    (codes "press", Touches Press) ∷
+    (codes "release", Touches Release) ∷
+    (codes "move", Touches Move) ∷
+    (codes "drag", Drags) ∷
+    (codes "type", Types) ∷
+    (codes "key", Strikes) ∷
+    (codes "focus", Focuses) ∷
+    (codes "rect", Places) ∷
+    (codes "line", Tells) ∷
+    []
+
+unfoldable pub keys : List (List ℕ)
+keys = codes "time" ∷ codes "after" ∷ map (λ way. way.0) ways
+
+abbrev pub deeds_of : List AppBlock → Members → Option (List Deed)
+deeds_of panels members = all_said (map (λ way. deeds_at panels members way.0 way.1) ways)
+
 -- what is done by a table, which has a moment and one more of its keys: by each key in its way
 abbrev pub deeds_in : List AppBlock → Members → Option (List Deed)
-deeds_in panels members =
-    if are_known (map (λ key. key.now) KEYS) members && length (keys_of members) == 2 then all_said (map (λ row. deeds_at panels members row.0.now row.1) WAYS) else None
+deeds_in panels members = if are_known keys members && length (keys_of members) == 2 then deeds_of panels members else None

@@ -16,7 +16,6 @@ use Rattle.panels.specs.declared.bench.Look.TheVariants.{Asked, Window, Says, Ha
 use Rattle.panels.specs.declared.bench.Question.{Question}
 use Rattle.panels.specs.declared.bench.Question.TheVariants as questions
 use Rattle.panels_bench.specs.Values.{all_said, are_known, flag_if, if_there, number_if, one, onto, short, slot_in, text_if, text_in}
-use Rattle.panels_bench.specs.declared.seeing.TheConstants.{KEYS, OF_PANEL, OF_WINDOW}
 use Rattle.panels_bench.specs.declared.seeing.Sought.{Sought}
 use Rattle.panels_bench.specs.declared.seeing.Sought.TheVariants as sought
 use Rattle.panels_text.specs.Tables.{number_in, values_of}
@@ -222,21 +221,58 @@ abbrev pub unless_empty : Bool → List Sight → Option (List Sight)
 unless_empty may_be (one ∷ others) = Some (one ∷ others)
 unless_empty may_be [] = if may_be then Some [] else None
 
+-- what is sought of a window, by its keys
+unfoldable pub window_keys : List (List ℕ × Sought)
+window_keys =
+    (codes "there", sought.There) ∷
+    (codes "text", sought.Text) ∷
+    (codes "class", sought.Class) ∷
+    (codes "place", sought.Place) ∷
+    (codes "mapped", sought.Mapped) ∷
+    (codes "value", sought.Value) ∷
+    (codes "options", sought.Options) ∷
+    (codes "selection", sought.Selection) ∷
+    (codes "active", sought.Active) ∷
+    (codes "cursor", sought.Cursor) ∷
+    []
+
+-- what is sought of a panel as a whole
+unfoldable pub panel_keys : List (List ℕ × Sought)
+panel_keys =
+    (codes "focus", sought.Focus) ∷
+    (codes "title", sought.Title) ∷
+    (codes "variables", sought.Variables) ∷
+    (codes "says", sought.Line) ∷
+    (codes "errors", sought.Errors) ∷
+    (codes "state", sought.State) ∷
+    (codes "least-steps", sought.Steps) ∷
+    (codes "timers", sought.Timers) ∷
+    []
+
+unfoldable pub keys : List (List ℕ)
+keys = codes "time" ∷ codes "after" ∷ codes "panel" ∷ codes "window" ∷ (map (λ row. row.0) window_keys ++ map (λ row. row.0) panel_keys)
+
+abbrev pub sights_of_window : Members → Option (List Sight)
+sights_of_window members = all_said (map (λ row. sights_at members row.0 row.1) window_keys)
+
+abbrev pub sights_of_panel : Members → Option (List Sight)
+sights_of_panel members = all_said (map (λ row. sights_at members row.0 row.1) panel_keys)
+
 -- a window that is named has to show something
 abbrev pub of_window : Members → Option (List Sight)
-of_window members = all_said (map (λ row. sights_at members row.0.now row.1) OF_WINDOW) >>= unless_empty (not (is_some (get_member (codes "window") members)))
+of_window members = sights_of_window members >>= unless_empty (not (is_some (get_member (codes "window") members)))
 
 -- something has to be seen
 abbrev pub looks_in : Members → Option (List Sight)
 looks_in members = do
   window ← of_window members
-  panel ← all_said (map (λ row. sights_at members row.0.now row.1) OF_PANEL)
+  panel ← sights_of_panel members
   unless_empty false (window ++ panel)
 
 -- what has to be seen by a table, in the panel of this slot
 abbrev pub sights_in : List AppBlock → Members → Option (ℕ × List Sight)
 sights_in panels members =
-    if are_known (map (λ key. key.now) KEYS) members then (do
+    if are_known keys members then (do
       slot ← slot_in panels (get_member (codes "panel") members)
       sights ← looks_in members
       Some (slot, sights))

@@ -1,7 +1,7 @@
 //! What a person does.
 
 ghost use Rattle.std.specs.Prelude.{◌≡◌, ◌∷◌, [], codes, map, option_map, IfOk};
-ghost use Rattle.panels_bench.specs.Gestures.{LinesDeed, aim, aim_in, deed, deeds_at, deeds_by, deeds_in, drag_in, dropping_in, focus_in, focus_of, line_in, line_of, of_panels, placing_in, placing_of, pointing_in, presses, struck_in, touch_in, typed_in};
+ghost use Rattle.panels_bench.specs.Gestures.{LinesDeed, aim, aim_in, deed, deeds_at, deeds_by, deeds_in, deeds_of, drag_in, drag_keys, dropping_in, focus_in, focus_of, keys, line_in, line_of, of_panels, placing_in, placing_of, pointer_keys, pointing_in, presses, rect_keys, struck_in, touch_in, typed_in};
 ghost use Rattle.panels_bench.specs.Values.{Says, all_said, counted, table_if};
 ghost use Rattle.panels_text.specs.Tables.{value_of};
 ghost use Rattle.panels_text.specs.Words.{words_of};
@@ -158,6 +158,34 @@ fn dropping(alloc: Global, part: &Part<'_>, panels: &[AppBlock]) -> Result<Gestu
     }))
 }
 
+/// The keys of a table of gestures.
+fn known_keys() -> &'static [&'static str]
+    ensures { words_of result.now ≡ keys }
+{
+    KEYS.as_slice()
+}
+
+/// The keys of a gesture at a window.
+fn pointer_keys() -> &'static [&'static str]
+    ensures { words_of result.now ≡ pointer_keys }
+{
+    POINTER_KEYS.as_slice()
+}
+
+/// Those of a drag.
+fn drag_keys() -> &'static [&'static str]
+    ensures { words_of result.now ≡ drag_keys }
+{
+    DRAG_KEYS.as_slice()
+}
+
+/// Those of a rectangle.
+fn rect_keys() -> &'static [&'static str]
+    ensures { words_of result.now ≡ rect_keys }
+{
+    RECT_KEYS.as_slice()
+}
+
 /// The table that a key has, with these keys.
 fn inner<'a>(
     alloc: Global,
@@ -207,7 +235,7 @@ fn touch_at(
 ) -> Result<Vec<Gesture>, Failure>
     ensures { Says (λ found. map deed found.items) result (touch_in panels.now touch (value_of part.now key.now)) }
 {
-    let Some(inner) = inner(alloc, part, key, POINTER_KEYS.as_slice())? else {
+    let Some(inner) = inner(alloc, part, key, pointer_keys())? else {
         return Ok(Vec::new(alloc));
     };
     let gesture = pointing(alloc, &inner, touch, panels)?;
@@ -223,7 +251,7 @@ fn drag_at(
 ) -> Result<Vec<Gesture>, Failure>
     ensures { Says (λ found. map deed found.items) result (drag_in panels.now (value_of part.now key.now)) }
 {
-    let Some(inner) = inner(alloc, part, key, DRAG_KEYS.as_slice())? else {
+    let Some(inner) = inner(alloc, part, key, drag_keys())? else {
         return Ok(Vec::new(alloc));
     };
     let press = pointing(alloc, &inner, Touch::Press, panels)?;
@@ -305,7 +333,7 @@ fn placing_at(
 ) -> Result<Vec<Gesture>, Failure>
     ensures { Says (λ found. map deed found.items) result (placing_in panels.now (value_of part.now key.now)) }
 {
-    let Some(inner) = inner(alloc, part, key, RECT_KEYS.as_slice())? else {
+    let Some(inner) = inner(alloc, part, key, rect_keys())? else {
         return Ok(Vec::new(alloc));
     };
     let line = placing(alloc, &inner, panels)?;
@@ -393,6 +421,13 @@ fn all_deeds(
     Ok(found)
 }
 
+/// What the keys of a table say.
+fn deeds_of(alloc: Global, part: &Part<'_>, panels: &[AppBlock]) -> Result<Vec<Gesture>, Failure>
+    ensures { Says (λ found. map deed found.items) result (deeds_of panels.now (table_view part.now.table.now)) }
+{
+    all_deeds(alloc, part, WAYS.as_slice(), panels)
+}
+
 /// The gestures of an entry: a drag is two, a press, and moves that end in a release.
 pub(crate) fn gestures(
     alloc: Global,
@@ -401,10 +436,8 @@ pub(crate) fn gestures(
 ) -> Result<Vec<Gesture>, Failure>
     ensures { Says (λ found. map deed found.items) result (deeds_in panels.now (table_view part.now.table.now)) }
 {
-    let known = KEYS.as_slice();
-    part.check_keys(alloc, known)?;
-    let ways = WAYS.as_slice();
-    let found = all_deeds(alloc, part, ways, panels)?;
+    part.check_keys(alloc, known_keys())?;
+    let found = deeds_of(alloc, part, panels)?;
     let count = part.table.len();
     if count != 2 {
         let words =

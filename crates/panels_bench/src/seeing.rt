@@ -2,9 +2,10 @@
 
 ghost use Rattle.std.specs.Prelude.{◌≡◌, ◌++◌, ◌∷◌, [], map, IfOk, OnOk};
 ghost use Rattle.std.specs.String.{string_bytes};
-ghost use Rattle.panels_bench.specs.Sights.{is_state, looks_in, mark, of_window, place_in, place_of, shown, shows, sight, sights_at, sights_by, sights_in, state_in, unless_empty, written};
+ghost use Rattle.panels_bench.specs.Sights.{is_state, keys, looks_in, mark, of_window, place_in, place_of, shown, shows, sight, sights_at, sights_by, sights_in, sights_of_panel, sights_of_window, state_in, unless_empty, written};
 ghost use Rattle.panels_bench.specs.Values.{Says, all_said};
 ghost use Rattle.panels_text.specs.Tables.{value_of};
+ghost use Rattle.panels_text.specs.Words.{words_of};
 ghost use Rattle.toml.specs.View.{items_view, table_view};
 
 use crate::asking::{
@@ -339,6 +340,27 @@ fn all_sights(alloc: Global, part: &Part<'_>, rows: &[(&str, Sought)]) -> Result
     Ok(looks)
 }
 
+/// The keys of a table of what has to be seen.
+fn known_keys() -> &'static [&'static str]
+    ensures { words_of result.now ≡ keys }
+{
+    KEYS.as_slice()
+}
+
+/// What the keys of a window say.
+fn sights_of_window(alloc: Global, part: &Part<'_>) -> Result<Vec<Look>, Failure>
+    ensures { Says (λ looks. map sight looks.items) result (sights_of_window (table_view part.now.table.now)) }
+{
+    all_sights(alloc, part, OF_WINDOW.as_slice())
+}
+
+/// What those of a panel as a whole say.
+fn sights_of_panel(alloc: Global, part: &Part<'_>) -> Result<Vec<Look>, Failure>
+    ensures { Says (λ looks. map sight looks.items) result (sights_of_panel (table_view part.now.table.now)) }
+{
+    all_sights(alloc, part, OF_PANEL.as_slice())
+}
+
 /// Looks, of which there has to be one, unless there may be none.
 fn unless_empty(
     alloc: Global,
@@ -363,7 +385,7 @@ fn unless_empty(
 fn of_window(alloc: Global, part: &Part<'_>) -> Result<Vec<Look>, Failure>
     ensures { Says (λ looks. map sight looks.items) result (of_window (table_view part.now.table.now)) }
 {
-    let looks = all_sights(alloc, part, OF_WINDOW.as_slice())?;
+    let looks = sights_of_window(alloc, part)?;
     let may_be = !part.has("window");
     unless_empty(alloc, part, "window", WINDOW_WORDS, may_be, looks)
 }
@@ -373,7 +395,7 @@ fn all_looks(alloc: Global, part: &Part<'_>) -> Result<Vec<Look>, Failure>
     ensures { Says (λ looks. map sight looks.items) result (looks_in (table_view part.now.table.now)) }
 {
     let mut looks = of_window(alloc, part)?;
-    let mut others = all_sights(alloc, part, OF_PANEL.as_slice())?;
+    let mut others = sights_of_panel(alloc, part)?;
     looks.append(&mut others)?;
     unless_empty(alloc, part, "", PANEL_WORDS, false, looks)
 }
@@ -386,8 +408,7 @@ pub(crate) fn sights(
 ) -> Result<(usize, Vec<Look>), Failure>
     ensures { Says (λ found. (found.0, map sight found.1.items)) result (sights_in panels.now (table_view part.now.table.now)) }
 {
-    let known = KEYS.as_slice();
-    part.check_keys(alloc, known)?;
+    part.check_keys(alloc, known_keys())?;
     let slot = slot_named(alloc, part, "panel", panels)?;
     let looks = all_looks(alloc, part)?;
     Ok((slot, looks))

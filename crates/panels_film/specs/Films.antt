@@ -98,10 +98,11 @@ or_end some None = true
 or_end some (Some moment) = some moment
 
 module _ {M : Type 0} (answer : M → Meaning) (plan : Plan) where
-  -- what the panels show behind these calls, and how their windows look then
+  -- what the panels show behind these calls
   abbrev pub sections_at : List (Call M) → List (List ℕ)
   sections_at calls = take (length plan.apps) (sections_after answer calls)
 
+  -- likewise at a moment, with how many lines have come by then and how the windows look
   abbrev pub shown_at : List (Call M) → ℕ → Shown
   shown_at calls moment = record {
     moment = moment;

@@ -1,4 +1,4 @@
-use Rattle.std.proofs.Common.{◌≡◌, Bor, Err, List, Option, Some, ℕ, ap, rules, sym, ◌∙◌}
+use Rattle.std.proofs.Common.{◌≡◌, Err, List, Option, Some, ℕ, ap, rules, sym, ◌∙◌}
 use Rattle.std.specs.Prelude.{is_none}
 use Rattle.tk_session.specs.Reading.{◌>>=◌}
 use Rattle.toml.specs.View.{table_view}
@@ -12,7 +12,7 @@ use Rattle.panels_bench.proofs.seeing.sights.Goals as goal
 pub returns-in_err-check_keys : goal.returns-in_err-check_keys
 returns-in_err-check_keys c =
     let part = c.args.part.now in
-    let known = ap (λ (own : List (Bor (List ℕ))). is_none (unknown_key part (words_of own))) (sym c.as_slice-known.ensures) ∙ keys_unknown part (words_of c.as_slice-known.result.now) _ c.in_err-check_keys.field-0.0 c.in_err-check_keys.ensures.unknown in
+    let known = ap (λ (own : List (List ℕ)). is_none (unknown_key part own)) (sym c.known_keys.ensures) ∙ keys_unknown part (words_of c.known_keys.result.now) _ c.in_err-check_keys.field-0.0 c.in_err-check_keys.ensures.unknown in
     let same : c.from_residual.result ≡ Err c.in_err-check_keys.field-0.0 = search rules in
     says_err _ _ _ _ same (λ said. if_unknown _ _ known)
 
@@ -34,7 +34,7 @@ pub returns : goal.returns
 returns c =
     let part = c.args.part.now in
     let members = table_view part.table.now in
-    let known = ap (λ (own : List (Bor (List ℕ))). is_none (unknown_key part (words_of own))) (sym c.as_slice-known.ensures) ∙ ap is_none c.in_ok-check_keys.ensures.known in
+    let known = ap (λ (own : List (List ℕ)). is_none (unknown_key part own)) (sym c.known_keys.ensures) ∙ ap is_none c.in_ok-check_keys.ensures.known in
     if_known _ _ known
     ∙ (ap (λ (own : Option ℕ). own >>= λ slot. looks_in members >>= λ sights. Some (slot, sights)) c.in_ok-slot.ensures
     ∙ ap (λ (own : Option (List Sight)). own >>= λ sights. Some (c.in_ok-slot.slot, sights)) c.in_ok-looks.ensures)

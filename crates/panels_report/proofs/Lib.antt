@@ -1,1 +1,6 @@
-mod Parsing
+mod Blocking
+mod Casing
+mod Getting
+mod Idling
+mod Questioned
+mod Trying

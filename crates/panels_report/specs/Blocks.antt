@@ -1,7 +1,8 @@
 -- Meaning. The blocks of a session that comes line by line.
-use Rattle.std.specs.Prelude.{◌≡◌, ℕ, List, [], ◌∷◌, ◌++◌, codes, Option, option_and_then}
+use Rattle.std.specs.Prelude.{◌≡◌, ℕ, ◌-◌, ◌==◌, nat_lt, MatchBool, List, [], ◌∷◌, ◌++◌, length, codes, Option, None, Some, option_and_then}
+use Rattle.std.specs.Str.{bytes_eq}
 use Rattle.std.specs.String.{string_bytes}
-use Rattle.panels_report.specs.Numbers.{number_in}
+use Rattle.panels_film.specs.Numbers.{number_in}
 use Rattle.panels_text.specs.Texts.{behind}
 use Rattle.tk_route.specs.declared.fault.LineFault.{LineFault}
 use Rattle.tk_session.specs.Session.{HasFault, IsSession, Plan}
@@ -77,6 +78,46 @@ MayStay before after Accepted = Unit {0}
 MayStay before after (Refused words) = after.front ≡ before.front
 MayStay before after (Begun session) = (after ≡ before) × IsSession (begun before) session
 
+-- ---- a line by what came before it
+
 -- how many lines of a script a line counts
 abbrev pub count_in : List ℕ → Option ℕ
 count_in line = option_and_then number_in (behind (codes "script ") line)
+
+-- a line of a script, behind which so many more come
+abbrev pub with_script : List ℕ → ℕ → Parts → Parts
+with_script line wanted parts = record { front = parts.front; block = parts.block; script = parts.script ++ line ++ 10 ∷ []; wanted = wanted }
+
+-- nothing is told of a line, which is kept
+abbrev pub IsKept : Parts → Parts → Taken → Type 0
+IsKept expected after Silent = after ≡ expected
+IsKept expected after Accepted = ⊥
+IsKept expected after (Refused words) = ⊥
+IsKept expected after (Begun session) = ⊥
+
+-- the block ends with the last line of its script
+abbrev pub IsScript : ℕ → Parts → Parts → Taken → Type 0
+IsScript left parts after taken = MatchBool (left == 0) (IsTaken (ended parts) (with_block parts) (without_block parts) after taken) (IsKept parts after taken)
+
+-- a line in front of a block's script counts its lines, and stands with them; where there is no block, it is none that may stand there
+abbrev pub IsCount : List ℕ → ℕ → Parts → Parts → Taken → Type 0
+IsCount line count before after taken =
+    MatchBool (length before.block == 0)
+    (IsTaken (opened line before) (with_head line before) before after taken)
+    (IsScript count (with_script line count before) after taken)
+
+abbrev pub IsLine : List ℕ → Option ℕ → Parts → Parts → Taken → Type 0
+IsLine line None before after taken = IsTaken (opened line before) (with_head line before) before after taken
+IsLine line (Some count) before after taken = IsCount line count before after taken
+
+-- What comes of a line: of a script, where lines of one are to come; else of the heading, where it hasn't come; else the session of the blocks begins, or it
+-- is a line of a block.
+abbrev pub Takes : List ℕ → Parts → Parts → Taken → Type 0
+Takes line before after taken =
+    MatchBool (nat_lt 0 before.wanted)
+    (IsScript (before.wanted - 1) (with_script line (before.wanted - 1) before) after taken)
+    (MatchBool (length before.front == 0)
+    (IsTaken (closing line) (with_front line before) before after taken)
+    (MatchBool (bytes_eq line (codes "events"))
+    ((after ≡ before) × IsBeginning (begun before) taken)
+    (IsLine line (count_in line) before after taken)))

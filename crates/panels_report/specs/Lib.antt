@@ -1,6 +1,7 @@
 -- What the contracts cite.
 pub mod Answers
 pub mod Blocks
+pub mod Cases
 pub mod Ends
 pub mod Expected
 pub mod Failing
@@ -8,4 +9,4 @@ pub mod Faults
 pub mod Idle
 pub mod Isolation
 pub mod Lint
-pub mod Numbers
+pub mod Trials

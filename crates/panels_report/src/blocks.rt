@@ -1,13 +1,13 @@
 //! The blocks of a session that comes line by line.
 
-ghost use Rattle.std.specs.Prelude.{◌≡◌, ◌++◌, ◌∷◌, [], ℕ, codes, option_map, IfOk, IfSome, IfNone, OnOk};
+ghost use Rattle.std.specs.Prelude.{◌≡◌, ◌-◌, ◌++◌, ◌∷◌, [], ℕ, codes, option_map, IfOk, IfSome, IfNone, OnOk};
 ghost use Rattle.std.specs.String.{string_bytes};
-ghost use Rattle.panels_report.specs.Blocks.{IsBeginning, IsTaken, MayStay, begun, closing, count_in, ended, none, opened, parts, with_block, with_front, with_head, without_block};
+ghost use Rattle.panels_report.specs.Blocks.{IsBeginning, IsCount, IsScript, IsTaken, MayStay, Takes, begun, closing, count_in, ended, none, opened, parts, with_block, with_front, with_head, with_script, without_block};
 ghost use Rattle.panels_text.specs.Texts.{behind};
 ghost use Rattle.tk_session.specs.Session.{HasFault, IsSession, Plan};
 ghost use Rattle.tk_route.specs.declared.fault.LineFault.{LineFault};
 
-use crate::numbers::number_in;
+use panels_film::number_in;
 use panels_text::explained;
 use std::alloc::{AllocError, Global};
 use tk_session::{Session, SessionFault, read_session};
@@ -159,31 +159,37 @@ impl Blocks {
         }
     }
 
-    /// The line that counts those of a script.
-    fn take_count(&mut self, alloc: Global, line: &str, count: u64) -> Result<Taken, AllocError>
-        ensures { IfOk result (MayStay (parts self.old) (parts self.new)) }
+    /// A line of a script, or that which counts them, behind which so many more come.
+    fn take_line(&mut self, alloc: Global, line: &str, left: u64) -> Result<Taken, AllocError>
+        ensures stay { IfOk result (MayStay (parts self.old) (parts self.new)) }
+        ensures takes { IfOk result (IsScript left (with_script line.now left (parts self.old)) (parts self.new)) }
     {
-        if self.block.is_empty() {
-            return self.take_head(alloc, line);
-        }
         push_line(&mut self.script, line)?;
-        self.wanted = count;
-        if count == 0 {
+        self.wanted = left;
+        if left == 0 {
             return self.end_block(alloc);
         }
         Ok(Taken::Silent)
     }
 
+    /// The line that counts those of a script.
+    fn take_count(&mut self, alloc: Global, line: &str, count: u64) -> Result<Taken, AllocError>
+        ensures stay { IfOk result (MayStay (parts self.old) (parts self.new)) }
+        ensures takes { IfOk result (IsCount line.now count (parts self.old) (parts self.new)) }
+    {
+        if self.block.is_empty() {
+            return self.take_head(alloc, line);
+        }
+        self.take_line(alloc, line, count)
+    }
+
     /// A line of a script.
     fn take_script(&mut self, alloc: Global, line: &str) -> Result<Taken, AllocError>
-        ensures { IfOk result (MayStay (parts self.old) (parts self.new)) }
+        ensures stay { IfOk result (MayStay (parts self.old) (parts self.new)) }
+        ensures takes { IfOk result (let left = (parts self.old).wanted - 1 in IsScript left (with_script line.now left (parts self.old)) (parts self.new)) }
     {
-        push_line(&mut self.script, line)?;
-        self.wanted = self.wanted.saturating_sub(1);
-        if self.wanted == 0 {
-            return self.end_block(alloc);
-        }
-        Ok(Taken::Silent)
+        let left = self.wanted.saturating_sub(1);
+        self.take_line(alloc, line, left)
     }
 
     /// The session of the blocks.
@@ -223,6 +229,7 @@ impl Blocks {
     /// A line; one that is refused changes nothing, but that a block whose script is refused is gone.
     pub fn take(&mut self, alloc: Global, line: &str) -> Result<Taken, AllocError>
         ensures stay { IfOk result (MayStay (parts self.old) (parts self.new)) }
+        ensures takes { IfOk result (Takes line.now (parts self.old) (parts self.new)) }
     {
         if self.wanted > 0 {
             return self.take_script(alloc, line);

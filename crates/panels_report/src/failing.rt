@@ -4,11 +4,10 @@ ghost use Rattle.std.specs.Prelude.{◌≡◌};
 ghost use Rattle.std.specs.Option.{option_copied};
 ghost use Rattle.panels_report.specs.Failing.{raised};
 
-use crate::escapes::unescaped;
 use panels::{Ending, Raised, Stand};
 use panels_bench::place_words;
 use panels_film::comes_a_line;
-use panels_text::questions_of;
+use panels_text::{questions_of, unescaped};
 use std::alloc::{AllocError, Global};
 use tk_session::EventLine;
 

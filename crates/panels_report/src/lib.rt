@@ -5,13 +5,12 @@ mod answering;
 mod blocks;
 mod cases;
 mod ends;
-mod escapes;
 mod expecting;
 mod failing;
 mod idle;
 mod isolating;
 mod linting;
-mod numbers;
+mod lists;
 mod playing;
 mod trials;
 

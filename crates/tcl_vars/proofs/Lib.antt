@@ -9,6 +9,7 @@ pub mod LinkLemmas
 pub mod MadeLemmas
 pub mod NameLemmas
 pub mod NamedLemmas
+pub mod OnlyLinks
 pub mod PutLemmas
 pub mod ShortLemmas
 pub mod StoreLemmas

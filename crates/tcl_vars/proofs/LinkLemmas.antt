@@ -28,7 +28,7 @@ indexed-level place next (Some index) e = by (is_some place.element) e
     by true h = absurd (cc)
     by false h = cc
 
-and_then_same : {A B : Type 0} (f g : A → Option B) (o : Option A) → ((x : A) → o ≡ Some x → f x ≡ g x) → option_and_then f o ≡ option_and_then g o
+pub and_then_same : {A B : Type 0} (f g : A → Option B) (o : Option A) → ((x : A) → o ≡ Some x → f x ≡ g x) → option_and_then f o ≡ option_and_then g o
 and_then_same f g None h = refl
 and_then_same f g (Some x) h = h x refl
 

@@ -1,6 +1,7 @@
 -- What the contracts cite.
 pub mod Change
 pub mod Changing
+pub mod Links
 pub mod Name
 pub mod Named
 pub mod Owned

@@ -54,7 +54,8 @@ abbrev pub led_by : Place → Option (ℕ × List ℕ) → (Place → Option Pla
 led_by place None lead = Some place
 led_by place (Some link) lead = option_and_then lead (indexed (place_of link.0 link.1) place.element)
 
--- where a place leads through at most so many links; nowhere if an element is used as an array
+-- Where a place leads through at most so many links; nowhere if an element is used as an array. The number is there for the recursion alone: law
+-- `links_lead` has the equation without it.
 unfoldable pub led : Store → ℕ → Place → Option Place
 led store zero place = Some place
 led store (suc links) place = led_by place (link_of (content_at store place)) (λ next. led store links next)

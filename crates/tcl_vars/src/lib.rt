@@ -4,6 +4,7 @@
 mod arrays;
 mod content;
 mod frame;
+pub mod laws;
 mod name;
 mod scopes;
 mod table;

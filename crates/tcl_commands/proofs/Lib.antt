@@ -5,6 +5,7 @@ pub mod ConcatLemmas
 pub mod DoneLemmas
 pub mod EachLemmas
 pub mod EditLemmas
+pub mod OneIf
 pub mod PairsCut
 pub mod ShapeExamples
 pub mod ShapeLemmas

@@ -1,7 +1,8 @@
 -- The items of `switch` and the words of `foreach`, as they are read and as they are cut, and the iterations of `foreach`.
-use Rattle.std.proofs.Common.{◌≡◌, ◌≢◌, ◌↔◌, ℕ, zero, suc, ◌+◌, ◌-◌, ◌*◌, ◌%◌, ◌==◌, ◌<◌, ◌≤◌, min, ◌⊎◌, nat_lt, true, List, [], ◌∷◌, ◌++◌, length, drop, option_map, Option, Some, None, Result, Ok, Err, refl, ap, sym, subst, ◌∙◌, inl, inr, arith}
+use Rattle.std.proofs.Common.{◌≡◌, ◌≢◌, ◌↔◌, ℕ, zero, suc, ◌+◌, ◌-◌, ◌*◌, ◌%◌, ◌==◌, ◌<◌, ◌≤◌, ◌⊎◌, nat_lt, true, List, [], ◌∷◌, ◌++◌, length, drop, option_map, Option, Some, None, Result, Ok, Err, refl, ap, sym, subst, ◌∙◌, inl, inr, arith}
 use native.Mathlib.Nat.{mul-zero, mul-suc, mul-add-mod_self_left}
 use Rattle.std.proofs.lemmas.Bool.{lt-ltb, le-ltb, cases_lt}
+use Rattle.std.proofs.lemmas.List.{drop-drop, length-drop}
 use Rattle.tcl_text.specs.Readings.{list_of, IsList}
 use Rattle.tcl_text.specs.ListFaults.{IsListFault}
 use Rattle.tcl_text.specs.declared.fault.ListFault.{ListFault}
@@ -49,8 +50,7 @@ module _ (lists : (text : List ℕ) (items : List (List ℕ)) → (list_of text 
       by (name ∷ more) read some same =
           ap (λ n. group_of n (list_of items)) ((lists names (name ∷ more)).1 read)
           ∙ ap (group_named (name ∷ more)) ((lists items group.items).1 is.2)
-          ∙ ap (λ n. Ok (record { names = n; items = group.items; next = 0 })) same
-          ∙ ap (λ n. Ok (record { names = group.names; items = group.items; next = n })) (sym is.3)
+          ∙ ap (λ n. Ok (record { names = n; items = group.items })) same
 
   fault_read : (names items text : List ℕ) → IsNoGroup names items text → group_of (list_of names) (list_of items) ≡ Err text
   fault_read names items text (inl (fault, is, told)) = ap (λ n. group_of n (list_of items)) ((faults names fault).1 is) ∙ ap (λ t. Err t) (sym told)
@@ -70,7 +70,7 @@ module _ (lists : (text : List ℕ) (items : List (List ℕ)) → (list_of text 
       by (Err fault) taken named has = inl (fault, (faults names fault).0 named, refl)
       by (Ok []) taken named has = inr (inl ((lists names []).0 named, refl))
       by (Ok (name ∷ more)) (Err fault) named has = inr (inr (name ∷ more, (lists names (name ∷ more)).0 named, (λ none. absurd (cc)), (fault, (faults items fault).0 has, refl)))
-      by (Ok (name ∷ more)) (Ok all) named has = ((lists names (name ∷ more)).0 named, (λ none. absurd (cc)), (lists items all).0 has, refl)
+      by (Ok (name ∷ more)) (Ok all) named has = ((lists names (name ∷ more)).0 named, (λ none. absurd (cc)), (lists items all).0 has)
 
   groups_from_read : (words : List (List ℕ)) (body : List ℕ) (groups : List Group) → AreGroups words groups → groups_from None (words ++ body ∷ []) ≡ Ok groups
   groups_from_read words body [] none = ap (λ w. groups_from None (w ++ body ∷ [])) none
@@ -128,51 +128,22 @@ same_names : (iterations : ℕ) (group : Group) → (after_iterations iterations
 same_names zero group = refl
 same_names (suc iterations) group = same_names iterations group
 
-same_items : (iterations : ℕ) (group : Group) → (after_iterations iterations group).items ≡ group.items
-same_items zero group = refl
-same_items (suc iterations) group = same_items iterations group
+pub items_behind : (iterations : ℕ) (group : Group) → (after_iterations iterations group).items ≡ drop (length group.names * iterations) group.items
+items_behind zero group = ap (λ n. drop n group.items) (sym (mul-zero (length group.names)))
+items_behind (suc iterations) group =
+    ap (λ (names : List (List ℕ)). drop (length names) (after_iterations iterations group).items) (same_names iterations group)
+    ∙ ap (drop (length group.names)) (items_behind iterations group)
+    ∙ drop-drop (length group.names) (length group.names * iterations) group.items
+    ∙ ap (λ n. drop n group.items) (sym (mul-suc (length group.names) iterations))
 
--- a place among so many items when this many were asked for: past those, or at the end
-abbrev IsReached : ℕ → ℕ → ℕ → Type 0
-IsReached place items asked = ((asked < items) × (place ≡ asked)) ⊎ ((items ≤ asked) × (place ≡ items))
-
-next_reached : (names items asked place : ℕ) → IsReached place items asked → IsReached (min (place + names) items) items (asked + names)
-next_reached names items asked place is = by (cases_lt (asked + names) items) is
+-- some are left behind so many where there are more
+some_left : {X : Type 0} (xs : List X) (n : ℕ) → nat_lt 0 (length (drop n xs)) ≡ nat_lt n (length xs)
+some_left xs n = ap (nat_lt 0) (length-drop n xs) ∙ by (cases_lt n (length xs))
   where
-    by : (asked + names < items) ⊎ (items ≤ asked + names) → IsReached place items asked → IsReached (min (place + names) items) items (asked + names)
-    by (inl more) (inl at) = inl (more, omega (arith, more, at.1))
-    by (inl more) (inr at) = absurd (omega (arith, more, at.0))
-    by (inr last) (inl at) = inr (last, omega (arith, last, at.1))
-    by (inr last) (inr at) = inr (last, omega (arith, at.1))
+    by : (n < length xs) ⊎ (length xs ≤ n) → nat_lt 0 (length xs - n) ≡ nat_lt n (length xs)
+    by (inl more) = lt-ltb 0 (length xs - n) (omega (arith, more)) ∙ sym (lt-ltb n (length xs) more)
+    by (inr none) = le-ltb 0 (length xs - n) (omega (arith, none)) ∙ sym (le-ltb n (length xs) none)
 
-reached : (iterations : ℕ) (group : Group) → group.next ≡ 0 → IsReached (after_iterations iterations group).next (length group.items) (length group.names * iterations)
-reached zero group first = by (cases_lt 0 (length group.items))
-  where
-    by : (0 < length group.items) ⊎ (length group.items ≤ 0) → IsReached group.next (length group.items) (length group.names * 0)
-    by (inl some) = inl (rw (mul-zero (length group.names)) (some, first))
-    by (inr none) = inr (rw (mul-zero (length group.names)) (none, omega (arith, first, none)))
-reached (suc iterations) group first =
-    rw (mul-suc (length group.names) iterations)
-    (subst (λ (names : List (List ℕ)). IsReached (min ((after_iterations iterations group).next + length names) (length (after_iterations iterations group).items)) (length group.items) (length group.names * iterations + length group.names)) (sym (same_names iterations group))
-    (subst (λ (items : List (List ℕ)). IsReached (min ((after_iterations iterations group).next + length group.names) (length items)) (length group.items) (length group.names * iterations + length group.names)) (sym (same_items iterations group))
-    (next_reached (length group.names) (length group.items) (length group.names * iterations) (after_iterations iterations group).next (reached iterations group first))))
-
-drop_all : {X : Type 0} (xs : List X) (n : ℕ) → length xs ≤ n → drop n xs ≡ []
-drop_all [] zero h = refl
-drop_all [] (suc n) h = refl
-drop_all (x ∷ xs) zero h = absurd (omega (arith, h))
-drop_all (x ∷ xs) (suc n) h = drop_all xs n (omega (arith, h))
-
-pub more_iterations : (iterations : ℕ) (group : Group) → group.next ≡ 0 → has_more (after_iterations iterations group) ≡ nat_lt (length group.names * iterations) (length group.items)
-more_iterations iterations group first = ap (λ i. nat_lt (after_iterations iterations group).next (length i)) (same_items iterations group) ∙ by (reached iterations group first)
-  where
-    by : IsReached (after_iterations iterations group).next (length group.items) (length group.names * iterations) → nat_lt (after_iterations iterations group).next (length group.items) ≡ nat_lt (length group.names * iterations) (length group.items)
-    by (inl at) = ap (λ n. nat_lt n (length group.items)) at.1
-    by (inr at) = le-ltb (after_iterations iterations group).next (length group.items) (omega (arith, at.1)) ∙ sym (le-ltb (length group.names * iterations) (length group.items) at.0)
-
-pub items_behind : (iterations : ℕ) (group : Group) → group.next ≡ 0 → drop (after_iterations iterations group).next group.items ≡ drop (length group.names * iterations) group.items
-items_behind iterations group first = by (reached iterations group first)
-  where
-    by : IsReached (after_iterations iterations group).next (length group.items) (length group.names * iterations) → drop (after_iterations iterations group).next group.items ≡ drop (length group.names * iterations) group.items
-    by (inl at) = ap (λ n. drop n group.items) at.1
-    by (inr at) = drop_all group.items (after_iterations iterations group).next (omega (arith, at.1)) ∙ sym (drop_all group.items (length group.names * iterations) at.0)
+pub more_iterations : (iterations : ℕ) (group : Group) → has_more (after_iterations iterations group) ≡ nat_lt (length group.names * iterations) (length group.items)
+more_iterations iterations group =
+    ap (λ (items : List (List ℕ)). nat_lt 0 (length items)) (items_behind iterations group) ∙ some_left group.items (length group.names * iterations)

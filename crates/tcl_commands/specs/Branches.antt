@@ -1,4 +1,4 @@
--- Meaning. The words of `if`, and the pairs of `switch`: bodies, each behind its condition or pattern.
+-- Bodies, each behind its condition or pattern. The pairs of `switch` are meant so; how the words of `if` are cut is a step, as its meaning is IsIf of Shapes.
 use Rattle.std.specs.Prelude.{ℕ, List, [], ◌∷◌, if◌then◌else◌, Option, Some, None, option_map, codes, bytes_eq}
 use Rattle.tcl_commands.specs.declared.branches.Branch.{Branch}
 use Rattle.tcl_commands.specs.declared.branches.Clause.{Clause}
@@ -31,7 +31,8 @@ choices_from AtLast (word ∷ words) = choices_from (AtEnd word) words
 choices_from (AtEnd body) [] = Some (record { branches = []; otherwise = Some body })
 choices_from (AtEnd body) (word ∷ words) = None
 
--- the branches of `if`, and its last body; none where the words don't fit
+-- The branches of `if`, and its last body; none where the words don't fit. It walks the words; what they mean is IsIf of Shapes, which law
+-- if_words_are_cut says it is.
 unfoldable pub choices_of : List (List ℕ) → Option Choices
 choices_of words = choices_from AtTest words
 

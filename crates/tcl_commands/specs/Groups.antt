@@ -1,5 +1,5 @@
--- Meaning. The words of `foreach`: lists of names, each with a list of items.
-use Rattle.std.specs.Prelude.{ℕ, ◌+◌, ◌%◌, ◌==◌, nat_lt, min, Bool, List, [], ◌∷◌, length, Option, Some, None, Result, Ok, Err, codes}
+-- Meaning. The words of `foreach`: lists of names, each with a list of items, and the items that are left behind an iteration.
+use Rattle.std.specs.Prelude.{ℕ, ◌%◌, ◌==◌, nat_lt, Bool, List, [], ◌∷◌, length, drop, Option, Some, None, Result, Ok, Err, codes}
 use Rattle.tcl_text.specs.Readings.{list_of}
 use Rattle.tcl_text.specs.FaultTexts.{list_text}
 use Rattle.tcl_text.specs.declared.fault.ListFault.{ListFault}
@@ -7,7 +7,7 @@ use Rattle.tcl_commands.specs.declared.groups.Group.{Group}
 use Rattle.tcl_text.specs.Answers.{message}
 
 abbrev pub group_named : List (List ℕ) → Result (List (List ℕ)) ListFault → Result Group (List ℕ)
-group_named names (Ok items) = Ok (record { names = names; items = items; next = 0 })
+group_named names (Ok items) = Ok (record { names = names; items = items })
 group_named names (Err fault) = Err (message (list_text fault))
 
 abbrev pub no_names_text : List ℕ
@@ -39,10 +39,10 @@ groups_of words = groups_from None words
 abbrev pub has_body : List (List ℕ) → Bool
 has_body words = length words % 2 == 1
 
--- One iteration more was taken of the items: as many as there are names, or all that were left.
+-- One iteration took its items: one for each name, or all that were left.
 abbrev pub advanced : Group → Group
-advanced group = record group { next = min (group.next + length group.names) (length group.items) }
+advanced group = record group { items = drop (length group.names) group.items }
 
 -- there are items left
 abbrev pub has_more : Group → Bool
-has_more group = nat_lt group.next (length group.items)
+has_more group = nat_lt 0 (length group.items)

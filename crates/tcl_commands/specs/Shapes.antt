@@ -35,14 +35,19 @@ AreChoices words (branch ∷ branches) otherwise =
 abbrev pub IsIf : List (List ℕ) → Choices → Type 0
 IsIf words choices = AreChoices words choices.branches choices.otherwise
 
+-- The words behind `if` are these choices, or, where there are none, no choices at all.
+abbrev pub IsIfOrNone : List (List ℕ) → Option Choices → Type 0
+IsIfOrNone words (Some choices) = IsIf words choices
+IsIfOrNone words None = (choices : Choices) → IsIf words choices → ⊥
+
 -- each pattern, and its body behind it
 abbrev pub arm_words : List Branch → List (List ℕ)
 arm_words [] = []
 arm_words (arm ∷ arms) = arm.test ∷ arm.body ∷ arm_words arms
 
--- A non-empty list of names, and a list of items of which none has been taken yet.
+-- A non-empty list of names, and a list of items, of which all are left.
 abbrev pub IsGroup : List ℕ → List ℕ → Group → Type 0
-IsGroup names items group = IsList names group.names × (group.names ≢ []) × IsList items group.items × (group.next ≡ 0)
+IsGroup names items group = IsList names group.names × (group.names ≢ []) × IsList items group.items
 
 -- a word that is no list, and the text of that error
 abbrev pub IsNoList : List ℕ → List ℕ → Type 0

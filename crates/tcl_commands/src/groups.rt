@@ -1,22 +1,21 @@
-ghost use Rattle.std.specs.Prelude.{◌≡◌, ◌+◌, ◌++◌, min, map, length, IfOk};
+ghost use Rattle.std.specs.Prelude.{◌≡◌, ◌++◌, map, IfOk};
 ghost use Rattle.std.specs.List.{list_any};
 ghost use Rattle.tcl_text.specs.Readings.{list_of};
 ghost use Rattle.tcl_commands.specs.Ahead.{FollowsGroup};
 ghost use Rattle.tcl_commands.specs.Groups.{group_named, group_of, groups_from, groups_of, has_body, advanced, has_more};
 
+use crate::items_left::ItemsLeft;
 use crate::listing::Listing;
 use std::alloc::{AllocError, Global};
-use tcl_text::{ListItems, SplitFault, Text, TextList};
+use tcl_text::{SplitFault, Text, TextList};
 
-/// A list of names of `foreach`, and its list of items (foreach(n)).
+/// A list of names of `foreach`, and the items of its list that are left (foreach(n)).
 #[derive(Drop)]
 pub struct Group {
     /// The variables that take the items, one each in an iteration.
     pub names: TextList,
-    /// The items of all iterations, shared with the text where it keeps them.
-    pub items: ListItems,
-    /// How many of the items were taken in the iterations before.
-    pub next: usize,
+    /// The items of the iterations to come.
+    pub items: ItemsLeft,
 }
 
 /// The groups of a `foreach`, in the order of its words.
@@ -27,9 +26,7 @@ impl Listing<Group> {
     pub fn has_more(&self) -> bool
         ensures { result ≡ list_any has_more self.now }
     {
-        self.as_slice()
-            .iter()
-            .any(|group| group.next < group.items.len())
+        self.as_slice().iter().any(|group| 0 < group.items.len())
     }
 
     /// The groups behind one more iteration: each has given an item to each of its names, or all that were left.
@@ -47,19 +44,9 @@ impl Listing<Group> {
 fn past_iteration(group: Group) -> Group
     ensures { result ≡ advanced group }
 {
-    let Group { names, items, next } = group;
-    let next = next_place(names.len(), items.len(), next);
-    Group { names, items, next }
-}
-
-fn next_place(names: usize, items: usize, next: usize) -> usize
-    ensures { result ≡ min (next + names) items }
-{
-    if next < items && names < items - next {
-        next + names
-    } else {
-        items
-    }
+    let Group { names, items } = group;
+    let items = items.behind(names.len());
+    Group { names, items }
 }
 
 /// A list of items behind its names, or the error's text.
@@ -73,8 +60,7 @@ fn group_named(
     match items.list_items(alloc) {
         Ok(items) => Ok(Ok(Group {
             names,
-            items,
-            next: 0,
+            items: ItemsLeft::all(items),
         })),
         Err(SplitFault::BadList(fault)) => Ok(Err(fault.told(alloc)?)),
         Err(SplitFault::NoMemory) => Err(AllocError),

@@ -35,10 +35,10 @@ pub fn foreach_words_are_cut()
     list_faults_are_told();
 }
 
-/// After T iterations a group of N names has its items from number N times T on, counted from 0, and asks for another iteration where some are left.
+/// After T iterations a group of N names has the items left that stand behind N times T, and asks for another iteration where there are any.
 pub fn iterations_take_items()
-    ensures more { (iterations : ℕ) (group : Group) → group.next ≡ 0
+    ensures more { (iterations : ℕ) (group : Group)
         → has_more (after_iterations iterations group) ≡ nat_lt (length group.names * iterations) (length group.items) }
-    ensures items { (iterations : ℕ) (group : Group) → group.next ≡ 0
-        → drop (after_iterations iterations group).next group.items ≡ drop (length group.names * iterations) group.items }
+    ensures items { (iterations : ℕ) (group : Group)
+        → (after_iterations iterations group).items ≡ drop (length group.names * iterations) group.items }
 {}

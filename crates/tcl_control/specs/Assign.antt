@@ -33,7 +33,7 @@ behind_assigned rest assigned (Some text) = assigned
 abbrev pub on_assigned : (Store → Assigned) → Assigned → Assigned
 on_assigned rest assigned = behind_assigned rest assigned assigned.refused
 
--- the names of groups are given the items of an iteration
+-- the names of groups are given the first of the items that are left
 abbrev pub groups_assigned : ℕ → List Group → Store → Assigned
 groups_assigned frame [] store = done store
-groups_assigned frame (group ∷ groups) store = on_assigned (groups_assigned frame groups) (assigned frame group.names (drop group.next group.items) store)
+groups_assigned frame (group ∷ groups) store = on_assigned (groups_assigned frame groups) (assigned frame group.names group.items store)

@@ -5,7 +5,10 @@ use Rattle.tcl_text.specs.Glob.{glob_matches}
 use Rattle.tcl_text.specs.Readings.{list_of}
 use Rattle.tcl_text.specs.FaultTexts.{list_text}
 use Rattle.tcl_text.specs.declared.fault.ListFault.{ListFault}
-use Rattle.tcl_commands.specs.Branches.{choices_of, arms_of}
+use Rattle.tcl_text.specs.One.{One}
+use Rattle.tcl_commands.proofs.OneIf.{one_if}
+use Rattle.tcl_commands.specs.Branches.{arms_of}
+use Rattle.tcl_commands.specs.Shapes.{IsIfOrNone}
 use Rattle.tcl_commands.specs.declared.branches.Branch.{Branch}
 use Rattle.tcl_commands.specs.declared.branches.Choices.{Choices}
 use Rattle.tcl_control.specs.declared.choices.Matching.{Matching}
@@ -23,9 +26,13 @@ abbrev pub if_by : Option Choices → Plan
 if_by (Some choices) = Chooses choices
 if_by None = misused usage.If
 
+-- To the words of `if` one thing is related, choices or none, and no other. This type says what it is; the proof behind it says that it is there.
+abbrev pub only_if : (words : List (List ℕ)) → One (IsIfOrNone words)
+only_if words = one_if words
+
 -- if cond ?then? body ?elseif cond ?then? body ..? ?else? ?body?
 abbrev pub if_plan : List (List ℕ) → Plan
-if_plan words = if_by (choices_of words)
+if_plan words = if_by (only_if words).it
 
 -- ── switch ──
 

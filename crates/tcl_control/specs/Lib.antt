@@ -1,9 +1,4 @@
 -- What the contracts cite.
-pub use Rattle.tcl_table.specs.Levels
-pub use Rattle.tcl_table.specs.Names
-pub use Rattle.tcl_table.specs.Source
-pub use Rattle.tcl_table.specs.Table
-pub use Rattle.tcl_table.specs.Texts
 pub mod Assign
 pub mod Choices
 pub mod Commands

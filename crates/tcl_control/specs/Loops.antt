@@ -6,7 +6,7 @@ use Rattle.tcl_commands.specs.declared.groups.Group.{Group}
 use Rattle.tcl_control.specs.Assign.{Assigned, groups_assigned}
 use Rattle.tcl_vars.specs.Store.{Store}
 
--- what a test comes to, and the variables then: another iteration, and the items behind it; none; or an error's text
+-- what a test comes to, and the variables then: another iteration, and the items that are left behind it; none; or an error's text
 pub data Tested : Type 0 where
   More : Store → List Group → Tested
   NoMore : Store → Tested

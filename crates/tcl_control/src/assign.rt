@@ -3,8 +3,8 @@ ghost use Rattle.tcl_vars.specs.Store.{with_variable};
 ghost use Rattle.tcl_control.specs.Assign.{done, on_set, first_item, assigned, groups_assigned};
 
 use std::alloc::{AllocError, Global};
-use tcl_commands::Group;
-use tcl_text::{ListItems, Text};
+use tcl_commands::{Group, ItemsLeft};
+use tcl_text::Text;
 use tcl_vars::{Scopes, SetFault};
 
 /// Sets a variable of a level, or gives the error's text.
@@ -29,7 +29,7 @@ pub fn set_one(
 
 /// The item at a place, or the empty text.
 #[tactic(auto, using(crate::proofs::AssignLemmas::item_there, crate::proofs::AssignLemmas::no_item_there))]
-fn item_at(alloc: Global, items: &ListItems, at: usize) -> Result<Text, AllocError>
+fn item_at(alloc: Global, items: &ItemsLeft, at: usize) -> Result<Text, AllocError>
     ensures { IfOk result (λ item. item ≡ first_item (drop at items.now)) }
 {
     match items.get(alloc, at)? {
@@ -39,26 +39,25 @@ fn item_at(alloc: Global, items: &ListItems, at: usize) -> Result<Text, AllocErr
 }
 
 /// The place behind an item, where there is one.
-fn behind_item(items: &ListItems, at: usize) -> usize
+fn behind_item(items: &ItemsLeft, at: usize) -> usize
     ensures { drop result items.now ≡ drop 1 (drop at items.now) }
 {
     if at < items.len() { at + 1 } else { at }
 }
 
-/// Gives names the items from a place on.
+/// Gives names the items that are left.
 fn assign_names(
     alloc: Global,
     scopes: &mut Scopes,
     frame: usize,
     names: &[Text],
-    items: &ListItems,
-    from: usize,
+    items: &ItemsLeft,
 ) -> Result<Option<Text>, AllocError>
     requires { frame < length scopes.old }
-    ensures set { IfOk result (λ refused. record { store = scopes.new; refused = refused } ≡ assigned frame names.now (drop from items.now) scopes.old) }
+    ensures set { IfOk result (λ refused. record { store = scopes.new; refused = refused } ≡ assigned frame names.now items.now scopes.old) }
     ensures levels { length scopes.new ≡ length scopes.old }
 {
-    let mut at = from;
+    let mut at = 0;
     for name in names {
         let value = item_at(alloc, items, at)?;
         match set_one(alloc, scopes, frame, name, value)? {
@@ -81,14 +80,7 @@ pub fn assign_groups(
     ensures levels { length scopes.new ≡ length scopes.old }
 {
     for group in groups {
-        let refused = assign_names(
-            alloc,
-            scopes,
-            frame,
-            group.names.as_slice(),
-            &group.items,
-            group.next,
-        )?;
+        let refused = assign_names(alloc, scopes, frame, group.names.as_slice(), &group.items)?;
         if let Some(text) = refused {
             return Ok(Some(text));
         }

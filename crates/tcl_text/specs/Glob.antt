@@ -70,6 +70,7 @@ glob_from (inside_class class) (p ∷ ps) text =
     if p == close_bracket then first_passes (in_class class) (glob_from at_part ps) text
     else glob_from (inside_class (class ++ p ∷ [])) ps text
 
--- whether the pattern matches the whole text
+-- whether the pattern matches the whole text. Other definitions compute with this one; the meaning is GlobMatches, which clause matches of glob_match says
+-- it is
 unfoldable pub glob_matches : List ℕ → List ℕ → Bool
 glob_matches pattern text = glob_from at_part pattern text

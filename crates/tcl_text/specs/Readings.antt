@@ -288,7 +288,8 @@ abbrev pub elements : Reading → Result (List (List ℕ)) ListFault
 elements (Ok r) = Ok r.1
 elements (Err f) = Err f
 
--- the items of the list that the text is, or the first fault in it
+-- the items of the list that the text is, or the first fault in it. Other definitions compute with this one; the meaning is IsList above and IsListFault
+-- of ListFaults, which the laws lists_are_read and list_faults_are_told say it is
 unfoldable pub list_of : List ℕ → Result (List (List ℕ)) ListFault
 list_of text = elements (reading between (marks text))
 

@@ -2,7 +2,7 @@
 use Rattle.std.specs.Prelude.{ℕ, List}
 use Rattle.tcl_control.specs.declared.code.Code.{Code}
 use Rattle.tcl_control.specs.declared.code.Code.TheVariants.{Normal, Error, Return, Break, Continue}
-use Rattle.tcl_control.specs.Texts.{break_outside, continue_outside}
+use Rattle.tcl_table.specs.Texts.{break_outside, continue_outside}
 use Rattle.tk_panel.specs.declared.transcript.Stream.TheVariants.{Err as Errors}
 use Rattle.tk_panel.specs.Panel.{Panel}
 use Rattle.tk_panel.specs.Reports.{with_line}

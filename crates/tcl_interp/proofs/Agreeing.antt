@@ -23,8 +23,8 @@ use Rattle.tcl_expr.specs.Trees.{Tree}
 use Rattle.tcl_control.specs.Expressions.{expression_of, truth_of_text}
 use Rattle.tcl_control.specs.declared.loops.Loop.{Loop}
 use Rattle.tcl_control.specs.Control.{Called, call_of}
-use Rattle.tcl_control.specs.Source.{script_of}
-use Rattle.tcl_control.specs.Texts.{element_name}
+use Rattle.tcl_table.specs.Source.{script_of}
+use Rattle.tcl_table.specs.Texts.{element_name}
 use Rattle.tcl_control.specs.Loops.{Tested, More, NoMore, Fails, items_tested}
 use Rattle.tcl_interp.proofs.TreeValues.{tree_runs}
 use Rattle.tcl_interp.specs.Evaluation.{State, Outcome, Ended, OutOfSteps, seen_frame, and_then, on_normal, stepped, on_read, words_of, on_words, index_pieces, element_read, on_index, piece_meaning, pieces_meaning, element_within, element_meaning, words_meaning, called, commands_meaning}
@@ -52,7 +52,7 @@ module _ {S : Type 0} (P : S → Type 0) where
   same_on_normal f g h state Break text w = refl
   same_on_normal f g h state Continue text w = refl
 
-  same_stepped : (left : ℕ) (state : State S) (f g : State S → Outcome S) → P state.shows → ((state : State S) → P state.shows → f state ≡ g state) → stepped left state f ≡ stepped left state g
+  pub same_stepped : (left : ℕ) (state : State S) (f g : State S → Outcome S) → P state.shows → ((state : State S) → P state.shows → f state ≡ g state) → stepped left state f ≡ stepped left state g
   same_stepped zero state f g w h = refl
   same_stepped (suc left) state f g w h = h (record state { steps = left }) w
 
@@ -188,19 +188,19 @@ module _ {S : Type 0} (P : S → Type 0) where
     same_next None again more h state w = h state w
     same_next (Some script) again more h state w = same_script script (after_next again) (after_next more) state w (same_after_next again more h)
 
-    same_test : (test : Test) (body more : Test → State S → Outcome S) (state : State S) → P state.shows → ((after : Test) (state' : State S) → P state'.shows → body after state' ≡ more after state') → test_meaning run test body state ≡ test_meaning other test more state
+    pub same_test : (test : Test) (body more : Test → State S → Outcome S) (state : State S) → P state.shows → ((after : Test) (state' : State S) → P state'.shows → body after state' ≡ more after state') → test_meaning run test body state ≡ test_meaning other test more state
     same_test (Holds condition) body more state w h =
         same_condition condition (if_holds (body (Holds condition)) loop_ended) (if_holds (more (Holds condition)) loop_ended) state w
         (same_if (body (Holds condition)) loop_ended (more (Holds condition)) loop_ended (h (Holds condition)) (λ state' w'. refl))
     same_test (Items groups) body more state w h =
         same_on_tested state (λ left. body (Items left)) (λ left. more (Items left)) (items_tested (seen_frame state) groups state.store) w (λ left state' w'. h (Items left) state' w')
 
-    same_iteration : (looping : Loop) (again more : State S → Outcome S) → ((state : State S) → P state.shows → again state ≡ more state) → (state : State S) → P state.shows → iteration_meaning run looping again state ≡ iteration_meaning other looping more state
+    pub same_iteration : (looping : Loop) (again more : State S → Outcome S) → ((state : State S) → P state.shows → again state ≡ more state) → (state : State S) → P state.shows → iteration_meaning run looping again state ≡ iteration_meaning other looping more state
     same_iteration looping again more h state w =
         same_script looping.body (after_body (next_iteration run looping.next again)) (after_body (next_iteration other looping.next more)) state w
         (same_after_body (next_iteration run looping.next again) (next_iteration other looping.next more) (same_next looping.next again more h))
 
-    same_iterations : (looping : Loop) (iterations : ℕ) (state : State S) → P state.shows → iterations_meaning run looping iterations state ≡ iterations_meaning other looping iterations state
+    pub same_iterations : (looping : Loop) (iterations : ℕ) (state : State S) → P state.shows → iterations_meaning run looping iterations state ≡ iterations_meaning other looping iterations state
     same_iterations looping zero state w = refl
     same_iterations looping (suc iterations) state w =
         same_stepped state.steps state _ _ w (λ state' w'.

@@ -8,8 +8,8 @@ use Rattle.tcl_expr.specs.Resuming.{Resumption, Tells, evaluation_told, is_waiti
 use Rattle.tcl_expr.specs.Machine.{AsksBy}
 use Rattle.tcl_control.specs.declared.code.Code.TheVariants.{Normal, Error}
 use Rattle.tcl_control.specs.declared.context.Context.{Context}
-use Rattle.tcl_control.specs.Levels.{here}
-use Rattle.tcl_control.specs.Texts.{element_name}
+use Rattle.tcl_table.specs.Levels.{here}
+use Rattle.tcl_table.specs.Texts.{element_name}
 use Rattle.tcl_interp.specs.declared.expressions.Reply.{Reply}
 use Rattle.tcl_interp.specs.declared.expressions.Reply.TheVariants as reply
 use Rattle.tcl_interp.specs.Finish.{Begins, Evaluates, Ends, Waiting, ForValue}

@@ -12,7 +12,7 @@ use Rattle.tcl_words.specs.Grammar.{TextEnding, leaves, fails, Inner, index as o
 use Rattle.tcl_words.specs.Grammar.ArePieces.{stop, unended, byte, backslash, dollar, variable, braced_name, unclosed_name, element, faulty_index, bracket, faulty_script}
 use Rattle.tcl_words.proofs.IndicesAlone.{index_by_itself}
 use Rattle.tcl_control.specs.declared.code.Code.TheVariants.{Error}
-use Rattle.tcl_control.specs.Texts.{limit_text}
+use Rattle.tcl_table.specs.Texts.{limit_text}
 use Rattle.tcl_interp.specs.Evaluation.{State, Outcome, Ended, and_then, on_normal, with_value_of, with_joined, only_index_parse, index_pieces, element_read, on_index, pieces_meaning, element_by, element_within, element_meaning}
 use Rattle.tcl_interp.specs.ElementLaws.{ElementsAreRead, OnlyElements}
 use Rattle.tcl_interp.specs.Moves.{index_depth}

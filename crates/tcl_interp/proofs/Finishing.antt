@@ -7,7 +7,7 @@ use Rattle.tcl_vars.specs.Store.{element_in}
 use Rattle.tcl_control.specs.declared.code.Code.{Code}
 use Rattle.tcl_control.specs.declared.code.Code.TheVariants.{Normal, Error, Return, Break, Continue}
 use Rattle.tcl_control.specs.declared.loops.Loop.{Loop}
-use Rattle.tcl_control.specs.Texts.{element_name, limit_text}
+use Rattle.tcl_table.specs.Texts.{element_name, limit_text}
 use Rattle.tcl_commands.specs.declared.branches.Branch.{Branch}
 use Rattle.tcl_expr.specs.Resuming.{evaluation_told}
 use Rattle.tcl_interp.specs.Outside.{Outside}

@@ -22,9 +22,9 @@ use Rattle.tcl_expr.specs.declared.fault.ExprFault.{ExprFault}
 use Rattle.tcl_expr.specs.Resuming.{Resumption, answered}
 use Rattle.tcl_expr.specs.Reading.{tree_of, compiled_by}
 use Rattle.tcl_expr.specs.Trees.{Tree}
-use Rattle.tcl_control.specs.Source.{script_of}
+use Rattle.tcl_table.specs.Source.{script_of}
 use Rattle.tcl_control.proofs.ExpressionLemmas.{expression_walk}
-use Rattle.tcl_control.specs.Texts.{limit_text, element_name}
+use Rattle.tcl_table.specs.Texts.{limit_text, element_name}
 use Rattle.tcl_expr.proofs.CompileLemmas.{execute_whole}
 use Rattle.tcl_interp.proofs.TreeValues.{tree_runs}
 use Rattle.tcl_interp.proofs.Elements.{deep_enough}

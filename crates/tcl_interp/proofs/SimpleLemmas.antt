@@ -18,9 +18,9 @@ use Rattle.tcl_control.specs.declared.context.Context.{Context}
 use Rattle.tcl_control.specs.declared.plan.Plan.TheVariants as plan
 use Rattle.tcl_control.specs.Commands.{on_joined}
 use Rattle.tcl_control.specs.Control.{by_command, keeps_all}
-use Rattle.tcl_control.specs.Levels.{here}
-use Rattle.tcl_control.specs.Source.{script_of}
-use Rattle.tcl_control.specs.Texts.{limit_text}
+use Rattle.tcl_table.specs.Levels.{here}
+use Rattle.tcl_table.specs.Source.{script_of}
+use Rattle.tcl_table.specs.Texts.{limit_text}
 use Rattle.tcl_interp.specs.Outside.{Outside}
 use Rattle.tcl_interp.specs.Evaluation.{State, Outcome, Ended, OutOfSteps, and_then, on_normal, words_of, on_words, element_meaning, word_meaning, words_meaning, called, commands_meaning}
 use Rattle.tcl_interp.specs.Expressions.{expression_meaning}

@@ -11,7 +11,7 @@ use Rattle.tcl_control.specs.declared.loops.Test.{Test}
 use Rattle.tcl_control.specs.declared.loops.Test.TheVariants.{Holds, Items}
 use Rattle.tcl_control.specs.declared.loops.Loop.{Loop}
 use Rattle.tcl_control.specs.Control.{Called, call_of}
-use Rattle.tcl_control.specs.Levels.{here}
+use Rattle.tcl_table.specs.Levels.{here}
 use Rattle.tcl_control.specs.Loops.{Tested, More, NoMore, Fails, items_tested}
 use Rattle.tcl_interp.specs.declared.tasks.Act.{Act}
 use Rattle.tcl_interp.specs.declared.tasks.Act.TheVariants.{Done, Step, Run, Unknown}

@@ -23,7 +23,7 @@ use Rattle.tcl_control.specs.declared.context.Context.{Context}
 use Rattle.tcl_control.specs.declared.loops.Loop.{Loop}
 use Rattle.tcl_control.specs.declared.loops.Test.TheVariants.{Holds}
 use Rattle.tcl_control.specs.Expressions.{truth_of_text, truth_or_text}
-use Rattle.tcl_control.specs.Levels.{here}
+use Rattle.tcl_table.specs.Levels.{here}
 use Rattle.tcl_commands.specs.declared.branches.Branch.{Branch}
 use Rattle.tcl_interp.specs.Finish.{Evaluates, Ends, Waiting, ForTest, ForChoice}
 use Rattle.tcl_interp.specs.Moves.{Standing, moved, standing, value_given, begun_as, expression_begins, choice_move, chosen_move, iteration_move, test_move, end_move}

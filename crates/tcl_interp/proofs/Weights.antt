@@ -22,9 +22,9 @@ use Rattle.tcl_expr.specs.declared.step.Step.TheVariants as step
 use Rattle.tcl_expr.specs.Resuming.{Resumption}
 use Rattle.tcl_expr.specs.Machine.{AsksBy, weight as steps_weight}
 use Rattle.tcl_expr.proofs.StepLemmas.{weighs_less}
-use Rattle.tcl_control.specs.Levels.{here}
-use Rattle.tcl_control.specs.Source.{script_of}
-use Rattle.tcl_control.specs.Texts.{limit_text, element_name}
+use Rattle.tcl_table.specs.Levels.{here}
+use Rattle.tcl_table.specs.Source.{script_of}
+use Rattle.tcl_table.specs.Texts.{limit_text, element_name}
 use Rattle.tcl_interp.specs.Evaluation.{index_pieces, words_of}
 use Rattle.tcl_interp.specs.Scripts.{out_of_global}
 use Rattle.tcl_interp.specs.Finish.{Wording, Indexing, Doing, Begins, GoesOn, Indexes, Evaluates, Calls, Tests, Steps, Resumes, Ends, Waiting, ForCommand, ForPart, ForIndex, ForValue, ForTest, ForChoice, ForBody, ForNext, ForStart, ForCatch, ForLevels, ForProcedure, ForScript, ForAll}

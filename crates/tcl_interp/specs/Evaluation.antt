@@ -17,8 +17,8 @@ use Rattle.tcl_text.specs.declared.fault.ReadFault.{ReadFault}
 use Rattle.tcl_control.specs.declared.code.Code.{Code}
 use Rattle.tcl_control.specs.declared.code.Code.TheVariants.{Normal, Error}
 use Rattle.tcl_control.specs.declared.context.Context.{Context}
-use Rattle.tcl_control.specs.Levels.{here}
-use Rattle.tcl_control.specs.Texts.{limit_text, message, cannot_read_text, element_name}
+use Rattle.tcl_table.specs.Levels.{here}
+use Rattle.tcl_table.specs.Texts.{limit_text, message, cannot_read_text, element_name}
 use Rattle.tcl_text.specs.Limits.{most_bytes}
 
 -- What commands beside Tcl's see and change, the variables, the levels and the commands, and how many steps are left.

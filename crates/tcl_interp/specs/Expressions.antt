@@ -12,7 +12,7 @@ use Rattle.tcl_text.specs.Readings.{integer_of}
 use Rattle.tcl_control.specs.declared.code.Code.{Code}
 use Rattle.tcl_control.specs.declared.code.Code.TheVariants.{Normal, Error}
 use Rattle.tcl_control.specs.Expressions.{expression_of, truth_of_text}
-use Rattle.tcl_control.specs.Texts.{element_name}
+use Rattle.tcl_table.specs.Texts.{element_name}
 use Rattle.tcl_interp.specs.Evaluation.{State, Outcome, Ended, seen_frame, and_then, on_normal, on_read, with_value_of}
 
 -- with the value of an element

@@ -26,9 +26,9 @@ use Rattle.tcl_control.specs.declared.loops.Loop.{Loop}
 use Rattle.tcl_control.specs.Expressions.{truth_of_text}
 use Rattle.tcl_control.specs.ExpressionForms.{evaluation_begins}
 use Rattle.tcl_control.specs.Commands.{Ending, caught_ending}
-use Rattle.tcl_control.specs.Levels.{here, popped}
-use Rattle.tcl_control.specs.Source.{script_of}
-use Rattle.tcl_control.specs.Texts.{limit_text, message, nesting_text, break_outside, continue_outside, cannot_read_text, element_name, unknown_command}
+use Rattle.tcl_table.specs.Levels.{here, popped}
+use Rattle.tcl_table.specs.Source.{script_of}
+use Rattle.tcl_table.specs.Texts.{limit_text, message, nesting_text, break_outside, continue_outside, cannot_read_text, element_name, unknown_command}
 use Rattle.tcl_control.specs.Loops.{Tested, More, NoMore, Fails as TestFails, items_tested}
 use Rattle.tcl_interp.specs.declared.tasks.Act.{Act}
 use Rattle.tcl_interp.specs.declared.tasks.Act.TheVariants.{Done, Step, Run, Unknown}

@@ -11,8 +11,8 @@ use Rattle.tcl_control.specs.declared.loops.Test.{Test}
 use Rattle.tcl_control.specs.declared.loops.Test.TheVariants.{Holds, Items}
 use Rattle.tcl_control.specs.declared.loops.Loop.{Loop}
 use Rattle.tcl_control.specs.Commands.{Ending, caught_ending}
-use Rattle.tcl_control.specs.Levels.{up, popped}
-use Rattle.tcl_control.specs.Texts.{break_outside, continue_outside}
+use Rattle.tcl_table.specs.Levels.{up, popped}
+use Rattle.tcl_table.specs.Texts.{break_outside, continue_outside}
 use Rattle.tcl_control.specs.Loops.{Tested, More, NoMore, Fails, items_tested}
 use Rattle.tcl_commands.specs.declared.groups.Group.{Group}
 use Rattle.tcl_interp.specs.Evaluation.{State, Outcome, Ended, OutOfSteps, seen_frame, and_then, on_normal, with_step}
@@ -125,7 +125,8 @@ module _ {S : Type 0} (run : List ℕ → State S → Outcome S) where
   abbrev pub iteration_meaning : Loop → (State S → Outcome S) → State S → Outcome S
   iteration_meaning looping again state = and_then (run looping.body state) (after_body (next_iteration looping.next again))
 
-  -- Of so many iterations, each of which takes a step for its test: so no more than steps are left are ever made.
+  -- Of so many iterations, each of which takes a step for its test: so no more than steps are left are ever made. The number is there for the recursion
+  -- alone: law `loops_go_on` has the equation without it.
   abbrev pub iterations_meaning : Loop → ℕ → State S → Outcome S
   iterations_meaning looping zero state = OutOfSteps state
   iterations_meaning looping (suc iterations) state =

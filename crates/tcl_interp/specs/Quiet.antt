@@ -9,7 +9,7 @@ use Rattle.tcl_expr.specs.Run.{Run, Ends as RunEnds}
 use Rattle.tcl_expr.specs.Steps.{asks}
 use Rattle.tcl_control.specs.declared.code.Code.{Code}
 use Rattle.tcl_control.specs.declared.context.Context.{Context}
-use Rattle.tcl_control.specs.Levels.{here}
+use Rattle.tcl_table.specs.Levels.{here}
 use Rattle.tcl_interp.specs.Finish.{Doing, Begins, GoesOn, Indexes, Evaluates, Ends, Waiting}
 use Rattle.tcl_interp.specs.Moves.{Moved, Standing, moved, standing, begin_move, go_on_move, indexes_move, answer_move, end_move}
 

@@ -2,7 +2,7 @@
 use Rattle.std.specs.Prelude.{ℕ, List, Result, Ok, Err}
 use Rattle.tcl_vars.specs.Store.{Store, variable_in, element_in}
 use Rattle.tcl_text.specs.declared.fault.ReadFault.{ReadFault}
-use Rattle.tcl_control.specs.Texts.{cannot_read_text, element_name}
+use Rattle.tcl_table.specs.Texts.{cannot_read_text, element_name}
 use Rattle.tcl_expr.specs.declared.ask.Ask.{Ask}
 use Rattle.tcl_expr.specs.declared.ask.Ask.TheVariants as ask
 use Rattle.tcl_interp.specs.declared.expressions.Reply.{Reply}

@@ -6,7 +6,7 @@ use Rattle.tcl_words.specs.declared.script.Piece.{Piece}
 use Rattle.tcl_text.specs.declared.fault.ParseFault.{ParseFault}
 use Rattle.tcl_vars.specs.Store.{Store}
 use Rattle.tcl_control.specs.declared.context.Context.{Context}
-use Rattle.tcl_control.specs.Source.{script_of}
+use Rattle.tcl_table.specs.Source.{script_of}
 use Rattle.tcl_interp.specs.declared.machine.ScriptPlace.{ScriptPlace}
 use Rattle.tcl_interp.specs.declared.machine.Wording.{Wording as WordsPart}
 use Rattle.tcl_interp.specs.declared.machine.Indexing.{Indexing as IndexPart}

@@ -10,8 +10,8 @@ use Rattle.tcl_control.specs.declared.code.ReturnCode.TheVariants.{Normal as AsN
 use Rattle.tcl_control.specs.declared.control.Call.{Call}
 use Rattle.tcl_control.specs.declared.control.Call.TheVariants as call
 use Rattle.tcl_control.specs.Control.{Called, call_of}
-use Rattle.tcl_control.specs.Source.{script_of}
-use Rattle.tcl_control.specs.Texts.{break_outside, continue_outside, message, nesting_text, unknown_command}
+use Rattle.tcl_table.specs.Source.{script_of}
+use Rattle.tcl_table.specs.Texts.{break_outside, continue_outside, message, nesting_text, unknown_command}
 use Rattle.tcl_interp.specs.Evaluation.{State, Outcome, Ended, commands_meaning}
 use Rattle.tcl_interp.specs.Plans.{plan_meaning}
 

@@ -3,7 +3,7 @@ use Rattle.std.specs.Prelude.{ℕ, List}
 use Rattle.tcl_vars.specs.Store.{Store}
 use Rattle.tcl_control.specs.declared.code.Code.{Code}
 use Rattle.tcl_control.specs.declared.code.Code.TheVariants.{Error, Break, Continue}
-use Rattle.tcl_control.specs.Texts.{break_outside, continue_outside}
+use Rattle.tcl_table.specs.Texts.{break_outside, continue_outside}
 use Rattle.tcl_interp.specs.declared.tasks.Act.{Act}
 use Rattle.tcl_interp.specs.declared.tasks.Act.TheVariants.{Done, Step, Run}
 use Rattle.tcl_interp.specs.Outside.{Outside, Told}

@@ -1,7 +1,7 @@
 ghost use Rattle.std.specs.Prelude.{◌≡◌, true, [], List, drop, IfOk, IsOk, MatchResult, MatchOption, ◌∷◌, Err};
 ghost use Rattle.tcl_control.specs.Commands.{caught_ending};
-ghost use Rattle.tcl_control.specs.Levels.{here, popped};
-ghost use Rattle.tcl_control.specs.Source.{script_of};
+ghost use Rattle.tcl_table.specs.Levels.{here, popped};
+ghost use Rattle.tcl_table.specs.Source.{script_of};
 ghost use Rattle.tcl_interp.specs.Plans.{with_levels_behind, callers, procedure_code, procedure_text};
 ghost use Rattle.tcl_interp.specs.Scripts.{out_of_global};
 ghost use Rattle.tcl_interp.specs.Moves.{after_command, after_part, after_index, after_value_move, after_test_move, after_choice_move, begin_move, parsed_move, end_move, next_move, after_body_move, after_next_move, after_start_move, ending_move, moved, standing, global_end};

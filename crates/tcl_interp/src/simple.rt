@@ -8,7 +8,7 @@ ghost use Rattle.tcl_table.specs.Names.{plain_name};
 ghost use Rattle.tcl_table.specs.Table.{command_of};
 ghost use Rattle.tcl_control.specs.declared.code.Code.TheVariants.{Normal};
 ghost use Rattle.tcl_control.specs.ExpressionForms.{evaluation_begins};
-ghost use Rattle.tcl_control.specs.Levels.{here};
+ghost use Rattle.tcl_table.specs.Levels.{here};
 ghost use Rattle.tcl_control.specs.Variables.{answer_code, answer_text};
 ghost use Rattle.tcl_interp.specs.Finish.{Calls, ForCommand, GoesOn};
 ghost use Rattle.tcl_interp.specs.Moves.{moved, standing};

@@ -1,6 +1,6 @@
 ghost use Rattle.std.specs.Prelude.{◌≡◌, ◌∷◌, IfOk, OnOk};
 ghost use Rattle.tcl_vars.specs.Store.{Store};
-ghost use Rattle.tcl_control.specs.Levels.{here};
+ghost use Rattle.tcl_table.specs.Levels.{here};
 ghost use Rattle.tcl_control.specs.Loops.{items_tested};
 ghost use Rattle.tcl_interp.specs.Plans.{with_first_levels, others};
 ghost use Rattle.tcl_interp.specs.Finish.{Calls, ForLevels};

@@ -1,5 +1,5 @@
 ghost use Rattle.std.specs.Prelude.{◌≡◌, ◌⊎◌, Err, IfErr, IfOk, IsOk};
-ghost use Rattle.tcl_control.specs.Source.{script_of};
+ghost use Rattle.tcl_table.specs.Source.{script_of};
 
 use std::alloc::AllocError;
 use tcl_control::Code;

@@ -1,8 +1,8 @@
 ghost use Rattle.std.specs.Prelude.{◌≡◌, ◌<◌, ◌≤◌, ◌+◌, [], ◌++◌, length, drop, nat_le, if◌then◌else◌, Some, None, option_map, MatchResult, Ok, Err, ◌∷◌, OnOk, IfOk, IfSome};
 ghost use Rattle.tcl_vars.specs.Store.{variable_in, element_in};
 ghost use Rattle.tcl_text.specs.Readings.{list_of};
-ghost use Rattle.tcl_control.specs.Source.{script_of};
-ghost use Rattle.tcl_control.specs.Texts.{element_name};
+ghost use Rattle.tcl_table.specs.Source.{script_of};
+ghost use Rattle.tcl_table.specs.Texts.{element_name};
 ghost use Rattle.tcl_interp.specs.Evaluation.{items_or_text, words_of};
 ghost use Rattle.tcl_control.specs.declared.code.Code.TheVariants.{Error};
 ghost use Rattle.tcl_interp.specs.Finish.{Begins, Ends};

@@ -4,7 +4,7 @@ use Rattle.tcl_words.specs.declared.script.Command.{Command}
 use Rattle.tcl_vars.specs.Store.{Store}
 use Rattle.tcl_control.specs.declared.code.Code.TheVariants.{Normal}
 use Rattle.tcl_control.specs.declared.context.Context.{Context}
-use Rattle.tcl_control.specs.Levels.{here}
+use Rattle.tcl_table.specs.Levels.{here}
 use Rattle.tcl_interp.specs.Finish.{Waiting, Ends, GoesOn, ForCommand}
 use Rattle.tcl_interp.specs.Moves.{Moved, moved, standing, go_on_move}
 use Rattle.tcl_interp.specs.Quiet.{MovesOn}

@@ -3,7 +3,7 @@ use Rattle.std.proofs.Common.{◌≡◌, ℕ, List, refl, ap, ◌∙◌}
 use Rattle.tcl_words.specs.declared.script.Command.{Command}
 use Rattle.tcl_vars.specs.Store.{Store}
 use Rattle.tcl_control.specs.declared.context.Context.{Context}
-use Rattle.tcl_control.specs.Levels.{here}
+use Rattle.tcl_table.specs.Levels.{here}
 use Rattle.tcl_interp.specs.Finish.{Waiting, Begins, GoesOn}
 use Rattle.tcl_interp.specs.Moves.{Moved, moved, standing, begin_move, go_on_move}
 use Rattle.tcl_interp.specs.Quiet.{MovesOn}

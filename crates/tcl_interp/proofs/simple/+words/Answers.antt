@@ -1,6 +1,6 @@
 use Rattle.std.proofs.Common.{◌≡◌, ◌<◌, ◌≤◌, ◌+◌, ◌-◌, [], ◌∷◌, length, drop, Ok, sym, subst, arith}
 use Rattle.tcl_vars.specs.Store.{Store}
-use Rattle.tcl_control.specs.Source.{script_of}
+use Rattle.tcl_table.specs.Source.{script_of}
 use Rattle.tcl_control.specs.declared.code.Code.TheVariants.{Normal}
 use Rattle.tcl_interp.specs.Rests.{IsSingle}
 use Rattle.tcl_interp.specs.Simple.{EndsCall, GivesWord, WordsLead}

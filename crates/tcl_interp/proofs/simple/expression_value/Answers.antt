@@ -1,6 +1,6 @@
 use Rattle.std.proofs.Common.{◌≡◌, [], ◌∷◌, Ok, arith}
 use Rattle.std.proofs.lemmas.Result.{IfOk-weaker}
-use Rattle.tcl_control.specs.Source.{script_of}
+use Rattle.tcl_table.specs.Source.{script_of}
 use Rattle.tcl_interp.proofs.SimpleLemmas.{only_command, if_expr_gives}
 use Rattle.tcl_interp.proofs.simple.expression_value.Goals as goal
 

@@ -5,7 +5,7 @@ use Rattle.tcl_commands.specs.declared.groups.Group.{Group}
 use Rattle.tcl_control.specs.declared.context.Context.{Context}
 use Rattle.tcl_control.specs.declared.loops.Loop.{Loop}
 use Rattle.tcl_control.specs.declared.loops.Test.TheVariants.{Items}
-use Rattle.tcl_control.specs.Levels.{here}
+use Rattle.tcl_table.specs.Levels.{here}
 use Rattle.tcl_control.specs.Loops.{items_tested}
 use Rattle.tcl_interp.specs.Finish.{Waiting}
 use Rattle.tcl_interp.specs.Moves.{Standing, standing, items_move, test_move}

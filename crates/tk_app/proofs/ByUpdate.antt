@@ -41,8 +41,8 @@ use Rattle.tk_app.proofs.Commands.{command_called, scripts_run}
 use Rattle.tk_app.proofs.Equations.{settle_goes, update_goes}
 use Rattle.tk_app.proofs.Only.{bound_same, only_one, round_same, sound_screen}
 use Rattle.tk_app.proofs.Panels.{chosen_screen}
-use Rattle.tk_app.proofs.Sound.{IsSoundShown, StaysSound, jobs_sound, run_keeps, scripts_sound, shown_keeps, sound_acts}
-use Rattle.tk_app.proofs.Trees.{laid as laid_acts, marked_acts, removed_acts}
+use Rattle.tk_app.proofs.Sound.{IsSoundShown, StaysSound, jobs_sound, run_keeps, scripts_sound, shown_keeps, sound_on_scene}
+use Rattle.tk_app.proofs.Trees.{OnTrees, laid as laid_acts, marked_acts, removed_acts}
 
 -- the same where windows are sound
 abbrev pub Agrees : Action → Action → Type 0
@@ -64,7 +64,7 @@ module _ (room : ℕ) (run : RunsScripts) (same_run : AgreesRun IsSoundShown (ru
   idle_tasks_same state sound =
       let first : Panel = laid_out state.store state.shows.panel in
       round_same room run same_run state.steps with_layout with_layout (λ left kept few. refl) (idle_ids first.timers.entries) (with_whole_panel first state)
-      (laid_acts StaysSound sound_acts state.store state.shows.panel sound) (omega arith)
+      (laid_acts (OnTrees StaysSound) sound_on_scene state.store state.shows.panel sound) (omega arith)
 
   -- ── *Destroy* ──
 
@@ -78,14 +78,14 @@ module _ (room : ℕ) (run : RunsScripts) (same_run : AgreesRun IsSoundShown (ru
       destroyed_same (window_at number state.shows.panel.windowing.tree)
       (λ left. windows_behind (run_in room) numbers f (with_whole_panel (removed number left.shows.panel) left))
       (λ left. windows_behind run numbers g (with_whole_panel (removed number left.shows.panel) left))
-      (λ left kept. windows_same numbers f g same (with_whole_panel (removed number left.shows.panel) left) (removed_acts StaysSound sound_acts number left.shows.panel kept)) state sound
+      (λ left kept. windows_same numbers f g same (with_whole_panel (removed number left.shows.panel) left) (removed_acts (OnTrees StaysSound) sound_on_scene number left.shows.panel kept)) state sound
 
   pub destroy_same : (paths : List (List ℕ)) → Agrees (destroy_behind (run_in room) paths) (destroy_behind run paths)
   destroy_same [] state sound = refl
   destroy_same (path ∷ paths) state sound =
       let numbers : List ℕ = doomed_by path state.shows.panel in
       windows_same numbers (destroy_behind (run_in room) paths) (destroy_behind run paths) (destroy_same paths) (with_whole_panel (marked numbers state.shows.panel) state)
-      (marked_acts StaysSound sound_acts numbers state.shows.panel sound)
+      (marked_acts (OnTrees StaysSound) sound_on_scene numbers state.shows.panel sound)
 
   -- ── commands, where something meets the equation of `update` in this room ──
 
@@ -118,7 +118,7 @@ module _ (room : ℕ) (run : RunsScripts) (same_run : AgreesRun IsSoundShown (ru
         by (Some meaning) = refl
         by None =
             let came : Done = panel_command (name ∷ words) state.shows.panel state.store in
-            outcome_same called came.outcome (record (with_whole_panel came.panel state) { store = came.store }) (command_acts StaysSound sound_acts (name ∷ words) state.shows.panel state.store sound)
+            outcome_same called came.outcome (record (with_whole_panel came.panel state) { store = came.store }) (command_acts (OnTrees StaysSound) sound_on_scene (name ∷ words) state.shows.panel state.store sound)
 
 -- ── the laws ──
 

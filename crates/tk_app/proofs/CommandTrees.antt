@@ -1,4 +1,4 @@
--- What the commands of an application do to its windows.
+-- What the commands of an application do to its windows, and to what is packed.
 use Rattle.std.proofs.Common.{◌≡◌, ℕ, Bool, true, false, cond, List, [], ◌∷◌, Option, Some, None, refl, sym, subst}
 use Rattle.std.specs.Prelude.{Result, Ok, Err, codes, length, option_and_then}
 use Rattle.std.specs.Option.{option_map_or}
@@ -52,7 +52,7 @@ use Rattle.tk_tree.specs.Create.{refusal}
 use Rattle.tk_tree.specs.declared.fault.WindowFault.{WindowFault}
 use Rattle.tk_tree.specs.declared.fault.WindowFault.TheVariants.{BadPath}
 use Rattle.tk_tree.specs.declared.window.Window.{Window}
-use Rattle.tk_tree.specs.Own.{Tree, at_path, window_at}
+use Rattle.tk_tree.specs.Own.{at_path, window_at}
 use Rattle.tk_widgets.specs.Commands.{edit_asked, variable_write, wanted}
 use Rattle.tk_widgets.specs.declared.entry_commands.EntryEdit.{EntryEdit}
 use Rattle.tk_widgets.specs.declared.outcome.WidgetChange.{WidgetChange}
@@ -83,42 +83,42 @@ use Rattle.tk_commands.specs.Dispatch.{generated_by_when, dispatched_if, generat
 use Rattle.tk_commands.specs.Moment.{moment_command_done}
 use Rattle.tk_commands.specs.Path.{path_told}
 use Rattle.tk_commands.specs.Screen.{screen_command_done}
-use Rattle.tk_app.proofs.Trees.{Acts, HoldsOfActs, by_screen}
+use Rattle.tk_app.proofs.Trees.{Acts, HoldsOnScene, Scene, by_screen, scene_of}
 
--- ── what leaves the windows ──
+-- ── what leaves the windows, and what is packed ──
 
 -- a change of a widget
-changed_tree : (number : ℕ) (change : WidgetChange) (own : Windowing) (store : Store) → (changed number change own store).own.tree ≡ own.tree
+changed_scene : (number : ℕ) (change : WidgetChange) (own : Windowing) (store : Store) → scene_of (changed number change own store).own ≡ scene_of own
 unfolding changed
-changed_tree number change own store = by (widget_at number own.widgets) refl
+changed_scene number change own store = by (widget_at number own.widgets) refl
   where
-    written : (set : Result Store (List ℕ)) → (changed_after number change own store set).own.tree ≡ own.tree
+    written : (set : Result Store (List ℕ)) → scene_of (changed_after number change own store set).own ≡ scene_of own
     written (Ok new) = refl
     written (Err text) = refl
 
-    by : (widget : Option Widget) → widget_at number own.widgets ≡ widget → (changed number change own store).own.tree ≡ own.tree
+    by : (widget : Option Widget) → widget_at number own.widgets ≡ widget → scene_of (changed number change own store).own ≡ scene_of own
     by None is = rw is refl
     by (Some widget) is = rw is (written (wrote (variable_write change widget) store))
 
 -- a window's own command
-request_tree : (number : ℕ) (request : WidgetRequest) (own : Windowing) (store : Store) → (asked_of number request own store).own.tree ≡ own.tree
-request_tree number (Told act) own store = refl
-request_tree number (Wants change) own store = changed_tree number change own store
+request_scene : (number : ℕ) (request : WidgetRequest) (own : Windowing) (store : Store) → scene_of (asked_of number request own store).own ≡ scene_of own
+request_scene number (Told act) own store = refl
+request_scene number (Wants change) own store = changed_scene number change own store
 
-widget_tree : (number : ℕ) (words : List (List ℕ)) (own : Windowing) (store : Store) → (widget_words number words own store).own.tree ≡ own.tree
-widget_tree number words own store = by (widget_at number own.widgets) refl
+widget_scene : (number : ℕ) (words : List (List ℕ)) (own : Windowing) (store : Store) → scene_of (widget_words number words own store).own ≡ scene_of own
+widget_scene number words own store = by (widget_at number own.widgets) refl
   where
-    by : (widget : Option Widget) → widget_at number own.widgets ≡ widget → (widget_words number words own store).own.tree ≡ own.tree
+    by : (widget : Option Widget) → widget_at number own.widgets ≡ widget → scene_of (widget_words number words own store).own ≡ scene_of own
     by None is = rw is refl
-    by (Some widget) is = rw is (request_tree number (asked_by (wanted words (variable_text widget store) widget)) own store)
+    by (Some widget) is = rw is (request_scene number (asked_by (wanted words (variable_text widget store) widget)) own store)
 
-path_tree : (path : List ℕ) (words : List (List ℕ)) (own : Windowing) (store : Store) → (path_words path words own store).own.tree ≡ own.tree
+path_scene : (path : List ℕ) (words : List (List ℕ)) (own : Windowing) (store : Store) → scene_of (path_words path words own store).own ≡ scene_of own
 unfolding path_words
-path_tree path words own store = by (at_path path own.tree) refl
+path_scene path words own store = by (at_path path own.tree) refl
   where
-    by : (window : Option Window) → at_path path own.tree ≡ window → (path_words path words own store).own.tree ≡ own.tree
+    by : (window : Option Window) → at_path path own.tree ≡ window → scene_of (path_words path words own store).own ≡ scene_of own
     by None is = rw is refl
-    by (Some window) is = rw is (widget_tree window.number words own store)
+    by (Some window) is = rw is (widget_scene window.number words own store)
 
 -- `puts`
 puts_screen : (words : List (List ℕ)) (panel : Panel) → (puts_words words panel).0.windowing ≡ panel.windowing
@@ -133,125 +133,125 @@ puts_screen (channel ∷ text ∷ []) panel = by (bytes_eq channel (codes "stdou
 puts_screen (channel ∷ text ∷ word ∷ words) panel = refl
 
 -- `wm`
-title_tree : (path title : List ℕ) (own : Windowing) → (title_set path title own).own.tree ≡ own.tree
-title_tree path title own = by (is_main path own) refl
+title_scene : (path title : List ℕ) (own : Windowing) → scene_of (title_set path title own).own ≡ scene_of own
+title_scene path title own = by (is_main path own) refl
   where
-    by : (b : Bool) → is_main path own ≡ b → (title_set path title own).own.tree ≡ own.tree
+    by : (b : Bool) → is_main path own ≡ b → scene_of (title_set path title own).own ≡ scene_of own
     by true is = rw is refl
     by false is = rw is refl
 
-titles_tree : (words : List (List ℕ)) (own : Windowing) → (title_words words own).own.tree ≡ own.tree
-titles_tree [] own = refl
-titles_tree (path ∷ []) own = refl
-titles_tree (path ∷ title ∷ []) own = title_tree path title own
-titles_tree (path ∷ title ∷ word ∷ words) own = refl
+titles_scene : (words : List (List ℕ)) (own : Windowing) → scene_of (title_words words own).own ≡ scene_of own
+titles_scene [] own = refl
+titles_scene (path ∷ []) own = refl
+titles_scene (path ∷ title ∷ []) own = title_scene path title own
+titles_scene (path ∷ title ∷ word ∷ words) own = refl
 
-wm_tree : (words : List (List ℕ)) (own : Windowing) → (wm_words words own).own.tree ≡ own.tree
+wm_scene : (words : List (List ℕ)) (own : Windowing) → scene_of (wm_words words own).own ≡ scene_of own
 unfolding wm_words
-wm_tree [] own = refl
-wm_tree (name ∷ words) own = by (bytes_eq name (codes "title")) refl
+wm_scene [] own = refl
+wm_scene (name ∷ words) own = by (bytes_eq name (codes "title")) refl
   where
-    by : (b : Bool) → bytes_eq name (codes "title") ≡ b → (wm_words (name ∷ words) own).own.tree ≡ own.tree
-    by true is = rw is (titles_tree words own)
+    by : (b : Bool) → bytes_eq name (codes "title") ≡ b → scene_of (wm_words (name ∷ words) own).own ≡ scene_of own
+    by true is = rw is (titles_scene words own)
     by false is = rw is refl
 
 -- ── what the pointer and keys do to widgets ──
 
-relief_tree : (number : ℕ) (relief : List ℕ) (own : Windowing) → (with_relief number relief own).tree ≡ own.tree
-relief_tree number relief own = by (option_and_then (relief_settings relief) (widget_at number own.widgets))
+relief_scene : (number : ℕ) (relief : List ℕ) (own : Windowing) → scene_of (with_relief number relief own) ≡ scene_of own
+relief_scene number relief own = by (option_and_then (relief_settings relief) (widget_at number own.widgets))
   where
-    by : (all : Option (List Setting)) → (option_map_or (λ all. with_change number (Configure all) own) all own).tree ≡ own.tree
+    by : (all : Option (List Setting)) → scene_of (option_map_or (λ all. with_change number (Configure all) own) all own) ≡ scene_of own
     by None = refl
     by (Some all) = refl
 
-restored_tree : (number : ℕ) (relief : Option (List ℕ)) (own : Windowing) → (restored number relief own).tree ≡ own.tree
-restored_tree number None own = refl
-restored_tree number (Some relief) own = relief_tree number relief own
+restored_scene : (number : ℕ) (relief : Option (List ℕ)) (own : Windowing) → scene_of (restored number relief own) ≡ scene_of own
+restored_scene number None own = refl
+restored_scene number (Some relief) own = relief_scene number relief own
 
-either_tree : (b : Bool) (new own : Windowing) → new.tree ≡ own.tree → (cond b new own).tree ≡ own.tree
-either_tree true new own same = same
-either_tree false new own same = refl
+either_scene : (b : Bool) (new own : Windowing) → scene_of new ≡ scene_of own → scene_of (cond b new own) ≡ scene_of own
+either_scene true new own same = same
+either_scene false new own same = refl
 
-press_tree : (number : ℕ) (own : Windowing) (input : Input) (relief : Option (List ℕ)) → (pressed_with number own input relief).own.tree ≡ own.tree
-press_tree number own input None = refl
-press_tree number own input (Some relief) = relief_tree number (codes "sunken") own
+press_scene : (number : ℕ) (own : Windowing) (input : Input) (relief : Option (List ℕ)) → scene_of (pressed_with number own input relief).own ≡ scene_of own
+press_scene number own input None = refl
+press_scene number own input (Some relief) = relief_scene number (codes "sunken") own
 
-release_tree : (number : ℕ) (own : Windowing) (input : Input) → (let_go number own input).own.tree ≡ own.tree
-release_tree number own input = by (is_it number input.pressed)
+release_scene : (number : ℕ) (own : Windowing) (input : Input) → scene_of (let_go number own input).own ≡ scene_of own
+release_scene number own input = by (is_it number input.pressed)
   where
     by : (b : Bool)
-        → (cond b (buttons.told (restored number input.relief own) (record input { pressed = None }) (buttons.invoked_over number input (restored number input.relief own))) (buttons.told own input nothing)).own.tree
-        ≡ own.tree
-    by true = restored_tree number input.relief own
+        → scene_of (cond b (buttons.told (restored number input.relief own) (record input { pressed = None }) (buttons.invoked_over number input (restored number input.relief own))) (buttons.told own input nothing)).own
+        ≡ scene_of own
+    by true = restored_scene number input.relief own
     by false = refl
 
-button_tree : (request : ButtonRequest) (number : ℕ) (own : Windowing) (input : Input) → (act request number own input).own.tree ≡ own.tree
+button_scene : (request : ButtonRequest) (number : ℕ) (own : Windowing) (input : Input) → scene_of (act request number own input).own ≡ scene_of own
 unfolding act
-button_tree Enter number own input = either_tree (is_it number input.pressed) (with_relief number (codes "sunken") own) own (relief_tree number (codes "sunken") own)
-button_tree Leave number own input = either_tree (is_it number input.pressed) (restored number input.relief own) own (restored_tree number input.relief own)
-button_tree Press number own input = press_tree number own input (relief_to_keep number own)
-button_tree Release number own input = release_tree number own input
-button_tree Invoke number own input = refl
+button_scene Enter number own input = either_scene (is_it number input.pressed) (with_relief number (codes "sunken") own) own (relief_scene number (codes "sunken") own)
+button_scene Leave number own input = either_scene (is_it number input.pressed) (restored number input.relief own) own (restored_scene number input.relief own)
+button_scene Press number own input = press_scene number own input (relief_to_keep number own)
+button_scene Release number own input = release_scene number own input
+button_scene Invoke number own input = refl
 
-edit_tree : (number : ℕ) (key : EntryEdit) (own : Windowing) (store : Store) → (edited number key own store).own.tree ≡ own.tree
-edit_tree number key own store = by (widget_at number own.widgets) refl
+edit_scene : (number : ℕ) (key : EntryEdit) (own : Windowing) (store : Store) → scene_of (edited number key own store).own ≡ scene_of own
+edit_scene number key own store = by (widget_at number own.widgets) refl
   where
-    request : (asked : WidgetRequest) → (edited_as number own store asked).own.tree ≡ own.tree
+    request : (asked : WidgetRequest) → scene_of (edited_as number own store asked).own ≡ scene_of own
     request (Told act) = refl
-    request (Wants change) = changed_tree number change own store
+    request (Wants change) = changed_scene number change own store
 
-    by : (widget : Option Widget) → widget_at number own.widgets ≡ widget → (edited number key own store).own.tree ≡ own.tree
+    by : (widget : Option Widget) → widget_at number own.widgets ≡ widget → scene_of (edited number key own store).own ≡ scene_of own
     by None is = rw is refl
     by (Some widget) is = rw is (request (asked_by (edit_asked key (variable_text widget store) widget)))
 
-cursor_tree : (number : ℕ) (how : CursorMove) (own : Windowing) (store : Store) → (moved_at number how own store).tree ≡ own.tree
-cursor_tree number how own store = placed (option_and_then (place_of how store) (widget_at number own.widgets))
+cursor_scene : (number : ℕ) (how : CursorMove) (own : Windowing) (store : Store) → scene_of (moved_at number how own store) ≡ scene_of own
+cursor_scene number how own store = placed (option_and_then (place_of how store) (widget_at number own.widgets))
   where
-    placed : (at : Option ℕ) → (with_cursor number at own).tree ≡ own.tree
+    placed : (at : Option ℕ) → scene_of (with_cursor number at own) ≡ scene_of own
     placed None = refl
     placed (Some at) = refl
 
-entry_tree : (number moment : ℕ) (request : EntryRequest) (own : Windowing) (arrivals : Arrivals) (store : Store) → (entry_asked number moment request own arrivals store).own.tree ≡ own.tree
-entry_tree number moment (entry_request.Edit key) own arrivals store = edit_tree number key own store
-entry_tree number moment (entry_request.Move way) own arrivals store = cursor_tree number (By way) own store
-entry_tree number moment (entry_request.Point x) own arrivals store = by (is_disabled_at number own) refl
+entry_scene : (number moment : ℕ) (request : EntryRequest) (own : Windowing) (arrivals : Arrivals) (store : Store) → scene_of (entry_asked number moment request own arrivals store).own ≡ scene_of own
+entry_scene number moment (entry_request.Edit key) own arrivals store = edit_scene number key own store
+entry_scene number moment (entry_request.Move way) own arrivals store = cursor_scene number (By way) own store
+entry_scene number moment (entry_request.Point x) own arrivals store = by (is_disabled_at number own) refl
   where
-    by : (b : Bool) → is_disabled_at number own ≡ b → (pointed number moment x own arrivals store).own.tree ≡ own.tree
+    by : (b : Bool) → is_disabled_at number own ≡ b → scene_of (pointed number moment x own arrivals store).own ≡ scene_of own
     by true is = rw is refl
-    by false is = rw is (cursor_tree number (To x) own store)
+    by false is = rw is (cursor_scene number (To x) own store)
 
-effect_tree : (number : ℕ) (effect : Effect) (own : Windowing) → (with_effect number effect own).tree ≡ own.tree
-effect_tree number effect own = by effect.choice
+effect_scene : (number : ℕ) (effect : Effect) (own : Windowing) → scene_of (with_effect number effect own) ≡ scene_of own
+effect_scene number effect own = by effect.choice
   where
-    by : (choice : Option Choice) → (with_effect number (record effect { choice = choice }) own).tree ≡ own.tree
+    by : (choice : Option Choice) → scene_of (with_effect number (record effect { choice = choice }) own) ≡ scene_of own
     by None = refl
     by (Some choice) = refl
 
-listbox_tree : (number moment : ℕ) (request : ListboxRequest) (own : Windowing) (arrivals : Arrivals) → (listbox_asked number moment request own arrivals).own.tree ≡ own.tree
+listbox_scene : (number moment : ℕ) (request : ListboxRequest) (own : Windowing) (arrivals : Arrivals) → scene_of (listbox_asked number moment request own arrivals).own ≡ scene_of own
 unfolding listbox_asked
-listbox_tree number moment request own arrivals = by (effect_at number request own)
+listbox_scene number moment request own arrivals = by (effect_at number request own)
   where
-    by : (effect : Option Effect) → (asked_with number moment request own arrivals effect).own.tree ≡ own.tree
+    by : (effect : Option Effect) → scene_of (asked_with number moment request own arrivals effect).own ≡ scene_of own
     by None = refl
-    by (Some effect) = effect_tree number effect own
+    by (Some effect) = effect_scene number effect own
 
-class_tree : (command : ClassCommand) (words : List (List ℕ)) (moment : ℕ) (own : Windowing) (arrivals : Arrivals) (store : Store)
-    → (class_command_done command words moment own arrivals store).own.tree ≡ own.tree
+class_scene : (command : ClassCommand) (words : List (List ℕ)) (moment : ℕ) (own : Windowing) (arrivals : Arrivals) (store : Store)
+    → scene_of (class_command_done command words moment own arrivals store).own ≡ scene_of own
 unfolding class_command_done
-class_tree command words moment own arrivals store = by (target_in command words own)
+class_scene command words moment own arrivals store = by (target_in command words own)
   where
-    request : (number : ℕ) (asks : ClassRequest) → (asked number moment asks own arrivals store).own.tree ≡ own.tree
-    request number (Button asks) = button_tree asks number own arrivals.input
-    request number (Entry asks) = entry_tree number moment asks own arrivals store
-    request number (Listbox asks) = listbox_tree number moment asks own arrivals
+    request : (number : ℕ) (asks : ClassRequest) → scene_of (asked number moment asks own arrivals store).own ≡ scene_of own
+    request number (Button asks) = button_scene asks number own arrivals.input
+    request number (Entry asks) = entry_scene number moment asks own arrivals store
+    request number (Listbox asks) = listbox_scene number moment asks own arrivals
 
-    by : (target : Result ClassTarget (List ℕ)) → (requested moment target own arrivals store).own.tree ≡ own.tree
+    by : (target : Result ClassTarget (List ℕ)) → scene_of (requested moment target own arrivals store).own ≡ scene_of own
     by (Ok target) = request target.number target.request
     by (Err text) = refl
 
-module _ (Q : Tree → Tree → Type 0) (acts : HoldsOfActs Q) where
-  same_tree : (old new : Tree) → new ≡ old → Q old new
-  same_tree old new same = subst (Q old) (sym same) (acts.same old)
+module _ (Q : Scene → Scene → Type 0) (acts : HoldsOnScene Q) where
+  same_scene : (old new : Scene) → new ≡ old → Q old new
+  same_scene old new same = subst (Q old) (sym same) (acts.same old)
 
   abbrev Does : Panel → Panel → Type 0
   Does old new = Acts Q acts old new
@@ -261,56 +261,56 @@ module _ (Q : Tree → Tree → Type 0) (acts : HoldsOfActs Q) where
   moment_does : (command : MomentCommand) (words : List (List ℕ)) (panel : Panel) → Does panel (moment_command_done command words panel).panel
   unfolding moment_command_done
   moment_does moment_command.Puts words panel = by_screen Q acts panel (puts_words words panel).0 (puts_screen words panel)
-  moment_does moment_command.After words panel = acts.same panel.windowing.tree
-  moment_does moment_command.Clock words panel = acts.same panel.windowing.tree
-  moment_does moment_command.Update words panel = acts.same panel.windowing.tree
-  moment_does moment_command.Destroy words panel = acts.same panel.windowing.tree
+  moment_does moment_command.After words panel = acts.same (scene_of panel.windowing)
+  moment_does moment_command.Clock words panel = acts.same (scene_of panel.windowing)
+  moment_does moment_command.Update words panel = acts.same (scene_of panel.windowing)
+  moment_does moment_command.Destroy words panel = acts.same (scene_of panel.windowing)
 
   -- ── `bind`, `bindtags`, `event`, `focus` ──
 
-  bindtags_does : (words : List (List ℕ)) (tree : Tree) → Q tree (bindtags_words words tree).0
+  bindtags_does : (words : List (List ℕ)) (scene : Scene) → Q scene ((bindtags_words words scene.0).0, scene.1)
   unfolding bindtags_words
-  bindtags_does [] tree = acts.same tree
-  bindtags_does (path ∷ []) tree = acts.same tree
-  bindtags_does (path ∷ list ∷ []) tree = by (at_path path tree)
+  bindtags_does [] scene = acts.same scene
+  bindtags_does (path ∷ []) scene = acts.same scene
+  bindtags_does (path ∷ list ∷ []) scene = by (at_path path scene.0)
     where
-      items : (number : ℕ) (given : Result (List (List ℕ)) (List ℕ)) → Q tree (with_items number given tree).0
-      items number (Ok tags) = acts.changed number (with_tags tags) tree (record { number = λ w. refl; parent = λ w. refl; dying = λ w is. is })
-      items number (Err text) = acts.same tree
+      items : (number : ℕ) (given : Result (List (List ℕ)) (List ℕ)) → Q scene ((with_items number given scene.0).0, scene.1)
+      items number (Ok tags) = acts.changed number (with_tags tags) scene (record { number = λ w. refl; parent = λ w. refl; dying = λ w is. is })
+      items number (Err text) = acts.same scene
 
-      by : (window : Option Window) → Q tree (with_list path list window tree).0
+      by : (window : Option Window) → Q scene ((with_list path list window scene.0).0, scene.1)
       by (Some window) = items window.number (items_in list)
-      by None = acts.same tree
-  bindtags_does (path ∷ list ∷ word ∷ words) tree = acts.same tree
+      by None = acts.same scene
+  bindtags_does (path ∷ list ∷ word ∷ words) scene = acts.same scene
 
   generate_does : (words : List (List ℕ)) (panel : Panel) → Does panel (generate_told words panel).panel
   unfolding generate_told
   generate_does words panel = by (generate_words words panel.input.focus (length panel.queue) panel.moment panel.windowing.tree)
     where
       arrives : (when : When) (event : Event) → Does panel (generated_by_when when event panel).panel
-      arrives Now event = acts.same panel.windowing.tree
-      arrives Tail event = acts.same panel.windowing.tree
-      arrives Head event = acts.same panel.windowing.tree
+      arrives Now event = acts.same (scene_of panel.windowing)
+      arrives Tail event = acts.same (scene_of panel.windowing)
+      arrives Head event = acts.same (scene_of panel.windowing)
 
       by : (generated : Result Generated (List ℕ)) → Does panel (generated_told generated panel).panel
       by (Ok generated) = arrives generated.when generated.event
-      by (Err text) = acts.same panel.windowing.tree
+      by (Err text) = acts.same (scene_of panel.windowing)
 
   event_does : (words : List (List ℕ)) (panel : Panel) → Does panel (event_told words panel).panel
   unfolding event_told
-  event_does [] panel = acts.same panel.windowing.tree
+  event_does [] panel = acts.same (scene_of panel.windowing)
   event_does (name ∷ words) panel = by (bytes_eq name (codes "generate")) refl
     where
       by : (b : Bool) → bytes_eq name (codes "generate") ≡ b → Does panel (event_told (name ∷ words) panel).panel
       by true is = rw is (generate_does words panel)
-      by false is = rw is (acts.same panel.windowing.tree)
+      by false is = rw is (acts.same (scene_of panel.windowing))
 
   binding_does : (command : BindingCommand) (words : List (List ℕ)) (panel : Panel) → Does panel (binding_command_done command words panel).panel
   unfolding binding_command_done
-  binding_does binding.Bind words panel = acts.same panel.windowing.tree
-  binding_does binding.Bindtags words panel = bindtags_does words panel.windowing.tree
+  binding_does binding.Bind words panel = acts.same (scene_of panel.windowing)
+  binding_does binding.Bindtags words panel = bindtags_does words (scene_of panel.windowing)
   binding_does binding.Event words panel = event_does words panel
-  binding_does binding.Focus words panel = acts.same panel.windowing.tree
+  binding_does binding.Focus words panel = acts.same (scene_of panel.windowing)
 
   -- ── windows ──
 
@@ -318,34 +318,34 @@ module _ (Q : Tree → Tree → Type 0) (acts : HoldsOfActs Q) where
   not_main true fault rest is = absurd (cc)
   not_main false fault rest is = (refl, is)
 
-  create_does : (kind : Kind) (words : List (List ℕ)) (own : Windowing) (store : Store) → Q own.tree (create_words kind words own store).own.tree
+  create_does : (kind : Kind) (words : List (List ℕ)) (own : Windowing) (store : Store) → Q (scene_of own) (scene_of (create_words kind words own store).own)
   unfolding create_words
-  create_does kind [] own store = acts.same own.tree
+  create_does kind [] own store = acts.same (scene_of own)
   create_does kind (path ∷ options) own store = by (path_refusal path own.tree) refl
     where
       written : (bytes_eq path (codes ".") ≡ false) × (refusal path own.tree ≡ None) → (ready : Ready) (set : Result Store (List ℕ)) → wrote ready.write store ≡ set
-          → Q own.tree (or_keeps own store (made_of kind path own store (Ok ready))).own.tree
-      written may ready (Ok new) is = rw is (acts.made path kind own.tree may.0 may.1)
-      written may ready (Err text) is = rw is (acts.same own.tree)
+          → Q (scene_of own) (scene_of (or_keeps own store (made_of kind path own store (Ok ready))).own)
+      written may ready (Ok new) is = rw is (acts.made path kind (scene_of own) may.0 may.1)
+      written may ready (Err text) is = rw is (acts.same (scene_of own))
 
-      tested : (bytes_eq path (codes ".") ≡ false) × (refusal path own.tree ≡ None) → (given : Result Ready (List ℕ)) → Q own.tree (or_keeps own store (made_of kind path own store given)).own.tree
+      tested : (bytes_eq path (codes ".") ≡ false) × (refusal path own.tree ≡ None) → (given : Result Ready (List ℕ)) → Q (scene_of own) (scene_of (or_keeps own store (made_of kind path own store given)).own)
       tested may (Ok ready) = written may ready (wrote ready.write store) refl
-      tested may (Err text) = acts.same own.tree
+      tested may (Err text) = acts.same (scene_of own)
 
-      by : (refused : Option WindowFault) → path_refusal path own.tree ≡ refused → Q own.tree (or_keeps own store (made kind path options own store)).own.tree
+      by : (refused : Option WindowFault) → path_refusal path own.tree ≡ refused → Q (scene_of own) (scene_of (or_keeps own store (made kind path options own store)).own)
       by None is = rw is (tested (not_main (bytes_eq path (codes ".")) BadPath (refusal path own.tree) is) (configured_new kind (settings options (options_of kind))))
-      by (Some fault) is = rw is (acts.same own.tree)
+      by (Some fault) is = rw is (acts.same (scene_of own))
 
-  window_does : (command : WindowCommand) (words : List (List ℕ)) (own : Windowing) (store : Store) → Q own.tree (window_command_done command words own store).own.tree
+  window_does : (command : WindowCommand) (words : List (List ℕ)) (own : Windowing) (store : Store) → Q (scene_of own) (scene_of (window_command_done command words own store).own)
   unfolding window_command_done
   window_does (Make kind) words own store = create_does kind words own store
-  window_does Winfo words own store = acts.same own.tree
-  window_does Wm words own store = same_tree own.tree (wm_words words own).own.tree (wm_tree words own)
+  window_does Winfo words own store = acts.same (scene_of own)
+  window_does Wm words own store = same_scene (scene_of own) (scene_of (wm_words words own).own) (wm_scene words own)
 
   screen_does : (command : ScreenCommand) (words : List (List ℕ)) (panel : Panel) (store : Store) → Does panel (screen_command_done command words panel store).panel
   unfolding screen_command_done
   screen_does (OnWindow command) words panel store = window_does command words panel.windowing store
-  screen_does Pack words panel store = acts.same panel.windowing.tree
+  screen_does Pack words panel store = acts.packed words (scene_of panel.windowing)
 
   -- ── what class bindings run ──
 
@@ -353,19 +353,19 @@ module _ (Q : Tree → Tree → Type 0) (acts : HoldsOfActs Q) where
   selection_does number panel = by (selection_of panel.moment (window_at number panel.windowing.tree))
     where
       by : (event : Option Event) → Does panel (dispatched_if event panel).panel
-      by (Some event) = acts.same panel.windowing.tree
-      by None = acts.same panel.windowing.tree
+      by (Some event) = acts.same (scene_of panel.windowing)
+      by None = acts.same (scene_of panel.windowing)
 
   class_does : (command : ClassCommand) (words : List (List ℕ)) (panel : Panel) (store : Store) → Does panel (class_told command words panel store).panel
   unfolding class_told
   class_does command words panel store =
       let there : ClassDone = class_command command words panel store in
-      acts.after panel.windowing.tree there.panel.windowing.tree (outcome_for there.outcome there.panel).panel.windowing.tree
-      (same_tree panel.windowing.tree there.panel.windowing.tree (class_tree command words panel.moment panel.windowing (arrivals_in panel) store))
+      acts.after (scene_of panel.windowing) (scene_of there.panel.windowing) (scene_of (outcome_for there.outcome there.panel).panel.windowing)
+      (same_scene (scene_of panel.windowing) (scene_of there.panel.windowing) (class_scene command words panel.moment panel.windowing (arrivals_in panel) store))
       (by there.outcome there.panel)
     where
       by : (outcome : ClassOutcome) (panel : Panel) → Does panel (outcome_for outcome panel).panel
-      by (class.Acts act) panel = acts.same panel.windowing.tree
+      by (class.Acts act) panel = acts.same (scene_of panel.windowing)
       by (class.Selects number) panel = selection_does number panel
 
   -- ── all commands ──
@@ -378,13 +378,13 @@ module _ (Q : Tree → Tree → Type 0) (acts : HoldsOfActs Q) where
   command_does (command.Class named) words panel store = class_does named words panel store
 
   done_does : (named : Option TkCommand) (words : List (List ℕ)) (panel : Panel) (store : Store) → Does panel (done_by named words panel store).panel
-  done_does None words panel store = acts.same panel.windowing.tree
+  done_does None words panel store = acts.same (scene_of panel.windowing)
   done_does (Some named) words panel store = command_does named words panel store
 
   pub command_acts : (words : List (List ℕ)) (panel : Panel) (store : Store) → Does panel (panel_command words panel store).panel
-  command_acts [] panel store = acts.same panel.windowing.tree
+  command_acts [] panel store = acts.same (scene_of panel.windowing)
   command_acts (name ∷ words) panel store = by (begins_path name)
     where
       by : (b : Bool) → Does panel (cond b (path_told name words panel store) (done_by (command_named name) words panel store)).panel
-      by true = same_tree panel.windowing.tree (path_words name words panel.windowing store).own.tree (path_tree name words panel.windowing store)
+      by true = same_scene (scene_of panel.windowing) (scene_of (path_words name words panel.windowing store).own) (path_scene name words panel.windowing store)
       by false = done_does (command_named name) words panel store

@@ -4,7 +4,7 @@ use Rattle.std.specs.Prelude.{Ok, Err, option_map}
 use Rattle.tcl_vars.specs.Store.{Store}
 use Rattle.tcl_control.specs.declared.code.Code.{Code}
 use Rattle.tcl_control.specs.declared.code.Code.TheVariants.{Normal, Error, Return, Break, Continue}
-use Rattle.tcl_control.specs.Texts.{unknown_command}
+use Rattle.tcl_table.specs.Texts.{unknown_command}
 use Rattle.tcl_interp.specs.Acts.{act_meaning as by_act, outside_meaning, task_meaning, told_state}
 use Rattle.tcl_interp.specs.declared.job.Task.{Task}
 use Rattle.tcl_interp.specs.declared.job.Task.TheVariants.{Invoked}

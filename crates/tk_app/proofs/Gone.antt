@@ -12,6 +12,8 @@ use Rattle.tcl_interp.proofs.Kept.{Kept}
 use Rattle.tk_base.proofs.Orders.{found_there}
 use Rattle.tk_base.specs.Numbered.{AllBelow, IsRising, changed_at, numbered}
 use Rattle.tk_sequences.specs.declared.event.Event.{Event}
+use Rattle.tk_packer.specs.Packs.{no_packs}
+use Rattle.tk_screen.specs.Own.{Windowing}
 use Rattle.tk_tree.specs.Change.{dying}
 use Rattle.tk_tree.specs.declared.window.Window.{Window}
 use Rattle.tk_tree.specs.Orders.{below_first, post_order}
@@ -24,25 +26,28 @@ use Rattle.tk_panel.specs.Destroy.{all_dying, destroy_event, doomed_by, marked, 
 use Rattle.tk_panel.specs.Panel.{Panel}
 use Rattle.tk_panel.specs.Reports.{with_line}
 use Rattle.tk_app.specs.Behind.{after_bound_behind, bound_behind, destroy_behind, destroyed_behind, windows_behind}
-use Rattle.tk_app.specs.Commands.{scripts_in}
-use Rattle.tk_app.specs.Dispatch.{Action, global_meaning, with_whole_panel}
-use Rattle.tk_app.specs.Gone.{AreGone, DestroysAll, LeavesNone}
+use Rattle.tk_app.specs.Commands.{Update, scripts_in}
+use Rattle.tk_app.specs.Destroy.{destroy_dispatched, destroy_meaning, windows_destroyed}
+use Rattle.tk_app.specs.Dispatch.{Action, RunsScripts, followed_by, global_meaning, with_whole_panel}
+use Rattle.tk_app.specs.Gone.{AreGone, DestroysAll, DestroysUntested, LeavesNone, destroy_untested, removed_untested, untested_at, windows_untested}
 use Rattle.tk_app.specs.Outside.{run_in}
 use Rattle.tk_app.specs.Seen.{Seen}
-use Rattle.tk_app.specs.Settle.{IsSoundIn}
+use Rattle.tk_app.specs.Settle.{IsSoundIn, IsUpdate}
+use Rattle.tk_app.specs.Sound.{AreSound, EndsWith}
 use Rattle.tk_app.proofs.Behind.{destroy_is}
-use Rattle.tk_app.proofs.ByUpdate.{destroy_same, scripts_same}
-use Rattle.tk_app.proofs.Grows.{Grows, LivesIn, StaysAndGrows, Was, found_given, found_number, grow_acts, none_left}
+use Rattle.tk_app.proofs.ByUpdate.{destroy_same, global_same, scripts_keep_sound, scripts_same}
+use Rattle.tk_app.proofs.Grows.{Grows, LivesIn, StaysAndGrows, Was, found_given, found_number, grow_acts, grow_on_scene, none_left}
+use Rattle.tk_app.proofs.Items.{destroyed_so, windows_so}
 use Rattle.tk_app.proofs.Panels.{chosen_screen}
 use Rattle.tk_app.proofs.PostOrder.{Among, Member, Ordered, is_child, post_ordered, pushed}
-use Rattle.tk_app.proofs.Sound.{Since, global_since}
-use Rattle.tk_app.proofs.Trees.{Acts, by_screen, dying_acts, removed_acts}
+use Rattle.tk_app.proofs.Sound.{StaysSound, global_since, sound_on_scene}
+use Rattle.tk_app.proofs.Trees.{Acts, OnTrees, by_screen, dying_acts, marked_acts, removed_acts}
 
 -- what has been done since the windows were these
 abbrev From : Tree → Seen → Type 0
-From first seen = Since StaysAndGrows grow_acts first seen
+From first seen = StaysAndGrows first seen.panel.windowing.tree
 
-on_from : (first : Tree) (old new : Panel) → StaysAndGrows first old.windowing.tree → Acts StaysAndGrows grow_acts old new → StaysAndGrows first new.windowing.tree
+on_from : (first : Tree) (old new : Panel) → StaysAndGrows first old.windowing.tree → Acts (OnTrees StaysAndGrows) grow_on_scene old new → StaysAndGrows first new.windowing.tree
 on_from first old new since done = grow_acts.after first old.windowing.tree new.windowing.tree since done
 
 -- ── a window that is gone ──
@@ -134,7 +139,7 @@ module _ (room : ℕ) (all : List ℕ) where
       (λ begun. and_then (global_meaning (run_in room) script begun) (λ left code text. after_bound_behind (run_in room) (bound_behind (run_in room) scripts behind) behind left (out_of_global code) text))
       (λ steps. good_then first (global_meaning (run_in room) script (record state { steps = steps }))
       (λ left code text. after_bound_behind (run_in room) (bound_behind (run_in room) scripts behind) behind left (out_of_global code) text)
-      (global_since StaysAndGrows grow_acts first room script (record state { steps = steps }) since)
+      (global_since (OnTrees StaysAndGrows) grow_on_scene (first, no_packs) room script (record state { steps = steps }) since)
       (λ left code text kept. by (good_bound first behind rest scripts) left (out_of_global code) text kept))
     where
       by : ((left : State Seen) → From first left.shows → Good (bound_behind (run_in room) scripts behind left)) → (left : State Seen) (code : Code) (text : List ℕ) → From first left.shows
@@ -190,6 +195,34 @@ module _ (room : ℕ) (all : List ℕ) where
         by None is = is
         by (Some window) is = rw childless (none_left n panel.windowing.tree.windows)
 
+    -- so a window, when its turn comes
+    record Goes (n : ℕ) (done : List ℕ) (panel : Panel) : Type 0 where
+      childless : child_numbers n panel.windowing.tree.windows ≡ []
+      since : StaysAndGrows first (removed n panel).windowing.tree
+      gone : AllGone (n ∷ done) (removed n panel).windowing.tree
+
+    turn : (n : ℕ) (done : List ℕ) → HasOnly n done → n < first.next_number → ((window : Window) → window_at n first ≡ Some window → window.dying ≡ true)
+        → (here : Tree) → StaysAndGrows first here → AllGone done here → (panel : Panel) → StaysAndGrows here panel.windowing.tree → Goes n done panel
+    turn n done only given dead here since gone panel later =
+        let now : Tree = panel.windowing.tree in
+        let after : Panel = removed n panel in
+        let from_first : StaysAndGrows first now = grow_acts.after first here now since later in
+        let here_sound : IsSound here = (since sound).0 in
+        let gone_now : AllGone done now = all_stay done here now (later here_sound).1 gone in
+        let acts : Acts (OnTrees StaysAndGrows) grow_on_scene panel after = removed_acts (OnTrees StaysAndGrows) grow_on_scene n panel in
+        let sound_now : IsSound now = (later here_sound).0 in
+        let grown : Grows now after.windowing.tree = (acts sound_now).1 in
+        let first_now : Grows first now = (from_first sound).1 in
+        let none_below : child_numbers n now.windows ≡ [] = no_children n done only given dead now sound_now first_now gone_now in
+        record {
+          childless = none_below;
+          since = on_from first panel after from_first acts;
+          gone = (
+            record { given = omega (arith, given, first_now.numbers, grown.numbers); none = goes n panel none_below },
+            all_stay done now after.windowing.tree grown gone_now,
+          );
+        }
+
     -- one window, where those behind it go so
     good_window : (n : ℕ) (ns done : List ℕ) (behind : Action) → HasOnly n done → n < first.next_number → ((window : Window) → window_at n first ≡ Some window → window.dying ≡ true)
         → ((state : State Seen) → From first state.shows → AllGone (n ∷ done) state.shows.panel.windowing.tree → Good (windows_behind (run_in room) ns behind state))
@@ -204,29 +237,15 @@ module _ (room : ℕ) (all : List ℕ) where
 
         next : (left : State Seen) → From here left.shows → Good (behind_it left)
         next left later =
-            let now : Tree = left.shows.panel.windowing.tree in
-            let after : Panel = removed n left.shows.panel in
-            let from_first : StaysAndGrows first now = grow_acts.after first here now since later in
-            let here_sound : IsSound here = (since sound).0 in
-            let gone_now : AllGone done now = all_stay done here now (later here_sound).1 gone in
-            let acts : Acts StaysAndGrows grow_acts left.shows.panel after = removed_acts StaysAndGrows grow_acts n left.shows.panel in
-            let sound_now : IsSound now = (later here_sound).0 in
-            let grown : Grows now after.windowing.tree = (acts sound_now).1 in
-            let first_now : Grows first now = (from_first sound).1 in
-            rest (with_whole_panel after left) (on_from first left.shows.panel after from_first acts) (
-              record {
-                given = omega (arith, given, first_now.numbers, grown.numbers);
-                none = goes n left.shows.panel (no_children n done only given dead now sound_now first_now gone_now);
-              },
-              all_stay done now after.windowing.tree grown gone_now,
-            )
+            (let its : Goes n done left.shows.panel = turn n done only given dead here since gone left.shows.panel later in
+            rest (with_whole_panel (removed n left.shows.panel) left) its.since its.gone)
 
         by : (window : Option Window) → Good (destroyed_behind (run_in room) window behind_it state)
         by None = next state (grow_acts.same here)
         by (Some window) =
             let event : Event = destroy_event window state.shows.panel.moment in
             let there : Panel × List (List ℕ) = chosen event state.shows.panel in
-            good_bound here behind_it next there.1 (with_whole_panel there.0 state) (by_screen StaysAndGrows grow_acts state.shows.panel there.0 (chosen_screen event state.shows.panel))
+            good_bound here behind_it next there.1 (with_whole_panel there.0 state) (by_screen (OnTrees StaysAndGrows) grow_on_scene state.shows.panel there.0 (chosen_screen event state.shows.panel))
 
     good_windows : (ns done : List ℕ) (behind : Action) → AllDoomed ns → AllHave done ns
         → ((left : State Seen) → From first left.shows → AllGone (pushed ns done) left.shows.panel.windowing.tree → Good (behind left))
@@ -267,18 +286,22 @@ changed_dead n (window ∷ windows) later is = by (window.number == n) refl (cha
     by true same rest found = ap (λ (w : Window). w.dying) (sym (some_same (dying window) later (rw same at found)))
     by false differs rest found = rest (rw differs at found)
 
+-- windows that are to die, and what is packed is none of this
+dying_stays : (ns : List ℕ) (tree : Tree) → StaysAndGrows tree (all_dying ns tree)
+dying_stays ns tree = dying_acts (OnTrees StaysAndGrows) grow_on_scene ns (tree, no_packs)
+
 dead_all : (ns : List ℕ) (tree : Tree) → IsSound tree → (n : ℕ) → Among n ns → (window : Window) → window_at n (all_dying ns tree) ≡ Some window → window.dying ≡ true
 unfolding all_dying
 dead_all [] tree sound n among window is = absurd among
 dead_all (m ∷ ns) tree sound n (inl same) window is =
     let one : Tree = with_change m dying tree in
-    let sound_one : IsSound one = (dying_acts StaysAndGrows grow_acts (m ∷ []) tree sound).0 in
-    let rest = dying_acts StaysAndGrows grow_acts ns one sound_one in
+    let sound_one : IsSound one = (dying_stays (m ∷ []) tree sound).0 in
+    let rest = dying_stays ns one sound_one in
     let given : n < one.next_number = omega (arith, found_given n (all_dying ns one) window rest.0 is, dying_next ns one) in
     let was = rest.1.kept n window is given in
     was.dying (changed_dead m tree.windows was.before (ap (λ k. window_at k one) (sym same) ∙ was.there))
 dead_all (m ∷ ns) tree sound n (inr there) window is =
-    dead_all ns (with_change m dying tree) (dying_acts StaysAndGrows grow_acts (m ∷ []) tree sound).0 n there window is
+    dead_all ns (with_change m dying tree) (dying_stays (m ∷ []) tree sound).0 n there window is
 
 below_given : (next m : ℕ) (windows : List Window) → AllBelow number_of next windows → (n : ℕ) → Among n (below_first m windows) → n < next
 unfolding below_first
@@ -318,7 +341,7 @@ module _ (room : ℕ) (state : State Seen) (sound : IsSound state.shows.panel.wi
   first = all_dying numbers tree
 
   marks : IsSound first × Grows tree first
-  marks = dying_acts StaysAndGrows grow_acts numbers tree sound
+  marks = dying_stays numbers tree sound
 
   apart : (n : ℕ) (ns : List ℕ) → Among n (ns ++ number ∷ []) → Among n ns ⊎ (n ≡ number)
   apart n [] (inl same) = inr same
@@ -382,3 +405,104 @@ pub destroys_all : DestroysAll
 destroys_all update meets room path state sound =
     subst (LeavesNone (doomed_by path state.shows.panel))
     (destroy_same room (scripts_in update room) (scripts_same update meets room) (path ∷ []) state sound ∙ destroy_is (scripts_in update room) (path ∷ []) state) (destroys_run room path state sound)
+
+-- ── without a test ──
+
+untested_same : (n : ℕ) (panel : Panel) → child_numbers n panel.windowing.tree.windows ≡ [] → removed n panel ≡ removed_untested n panel
+unfolding removed
+untested_same n panel childless = by (window_at n panel.windowing.tree)
+  where
+    by : (found : Option Window) → removed_at n panel found ≡ untested_at n panel found
+    by None = refl
+    by (Some window) = rw childless refl
+
+-- what comes behind something that ends so, where it is the same in each such state
+then_same : (holds : Windowing → Type 0) (o : Outcome Seen) (f g : Action) → EndsWith holds o → ((left : State Seen) → holds left.shows.panel.windowing → f left ≡ g left)
+    → followed_by o f ≡ followed_by o g
+then_same holds (Ended left code text) f g kept same = same left kept
+then_same holds (OutOfSteps left) f g kept same = refl
+
+module _ (update : Update) (meets : IsUpdate update) (room : ℕ) where
+  abbrev run : RunsScripts
+  run = scripts_in update room
+
+  abbrev Later : Tree → Windowing → Type 0
+  Later first own = StaysAndGrows first own.tree
+
+  runs_later : (first : Tree) → IsSound first → (script : List ℕ) (state : State Seen) → From first state.shows → EndsWith (Later first) (global_meaning run script state)
+  runs_later first sound script state since =
+      subst (EndsWith (Later first)) (global_same room run (scripts_same update meets room) script state (since sound).0)
+      (ends (global_meaning (run_in room) script state) (global_since (OnTrees StaysAndGrows) grow_on_scene (first, no_packs) room script state since))
+    where
+      ends : (o : Outcome Seen) → Kept (From first) o → EndsWith (Later first) o
+      ends (Ended left code text) kept = kept
+      ends (OutOfSteps left) kept = tt
+
+  -- the windows as they were when they were marked
+  module _ (all : List ℕ) (first : Tree) (sound : IsSound first) where
+    window_same : (n : ℕ) (ns done : List ℕ) → HasOnly room all first sound n done → n < first.next_number → ((window : Window) → window_at n first ≡ Some window → window.dying ≡ true)
+        → ((state : State Seen) → From first state.shows → AllGone (n ∷ done) state.shows.panel.windowing.tree → windows_destroyed run ns state ≡ windows_untested run ns state)
+        → (state : State Seen) → From first state.shows → AllGone done state.shows.panel.windowing.tree → windows_destroyed run (n ∷ ns) state ≡ windows_untested run (n ∷ ns) state
+    window_same n ns done only given dead rest state since gone =
+        then_same (Later here) (destroy_dispatched run (window_at n here) state)
+        (λ left. windows_destroyed run ns (with_whole_panel (removed n left.shows.panel) left))
+        (λ left. windows_untested run ns (with_whole_panel (removed_untested n left.shows.panel) left))
+        (destroyed_so (Later here) run (runs_later here (since sound).0) (window_at n here) state (grow_acts.same here)) next
+      where
+        here : Tree
+        here = state.shows.panel.windowing.tree
+
+        next : (left : State Seen) → From here left.shows
+            → windows_destroyed run ns (with_whole_panel (removed n left.shows.panel) left) ≡ windows_untested run ns (with_whole_panel (removed_untested n left.shows.panel) left)
+        next left later =
+            let its = turn room all first sound n done only given dead here since gone left.shows.panel later in
+            rest (with_whole_panel (removed n left.shows.panel) left) its.since its.gone
+            ∙ ap (λ (panel : Panel). windows_untested run ns (with_whole_panel panel left)) (untested_same n left.shows.panel its.childless)
+
+    windows_same : (ns done : List ℕ) → AllDoomed room all first sound ns → AllHave room all first sound done ns → (state : State Seen) → From first state.shows
+        → AllGone done state.shows.panel.windowing.tree → windows_destroyed run ns state ≡ windows_untested run ns state
+    windows_same [] done doomed have state since gone = refl
+    windows_same (n ∷ ns) done doomed have state since gone =
+        window_same n ns done have.0 doomed.0 doomed.1 (windows_same ns (n ∷ done) doomed.2 have.1) state since gone
+
+  abbrev IsSame : State Seen → List ℕ → Type 0
+  IsSame state numbers =
+      windows_destroyed run numbers (with_whole_panel (marked numbers state.shows.panel) state) ≡ windows_untested run numbers (with_whole_panel (marked numbers state.shows.panel) state)
+
+  all_same : (state : State Seen) (sound : IsSoundIn state) (number : ℕ) (window : Window) → window_at number state.shows.panel.windowing.tree ≡ Some window
+      → IsSame state (post_order number state.shows.panel.windowing.tree)
+  all_same state sound number window there =
+      let now : Tree = state.shows.panel.windowing.tree in
+      let ns : List ℕ = post_order number now in
+      let marked_so = marks room state sound number window there in
+      windows_same ns (all_dying ns now) marked_so.0 ns [] (all_doomed room state sound number window there ns (λ n among. among))
+      (all_have room state sound number window there ns [] (post_ordered now.windows sound.rising sound.parents number))
+      (with_whole_panel (marked ns state.shows.panel) state) (grow_acts.same (all_dying ns now)) tt
+
+  path_same : (path : List ℕ) (state : State Seen) → IsSoundIn state → IsSame state (doomed_by path state.shows.panel)
+  path_same path state sound = by_path (at_path path state.shows.panel.windowing.tree) refl
+    where
+      now : Tree
+      now = state.shows.panel.windowing.tree
+
+      by_dying : (number : ℕ) (window : Window) → window_at number now ≡ Some window → (b : Bool) → IsSame state (cond b [] (post_order number now))
+      by_dying number window there true = refl
+      by_dying number window there false = all_same state sound number window there
+
+      by_path : (found : Option Window) → at_path path now ≡ found → IsSame state (option_map_or (λ w. cond w.dying [] (post_order w.number now)) found [])
+      by_path None is = refl
+      by_path (Some window) is = by_dying window.number window (member_found window now sound (found_member (λ (w : Window). bytes_eq path w.path) now.windows window is)) window.dying
+
+  paths_same : (paths : List (List ℕ)) (state : State Seen) → IsSoundIn state → destroy_meaning run paths state ≡ destroy_untested run paths state
+  paths_same [] state sound = refl
+  paths_same (path ∷ paths) state sound =
+      let numbers : List ℕ = doomed_by path state.shows.panel in
+      let begun : State Seen = with_whole_panel (marked numbers state.shows.panel) state in
+      then_same AreSound (windows_destroyed run numbers begun) (destroy_meaning run paths) (destroy_untested run paths)
+      (windows_so AreSound run (λ script left kept. scripts_keep_sound update meets room script left kept)
+      (λ number panel kept. removed_acts (OnTrees StaysSound) sound_on_scene number panel kept) numbers begun (marked_acts (OnTrees StaysSound) sound_on_scene numbers state.shows.panel sound))
+      (λ left kept. paths_same paths left kept)
+      ∙ ap (λ (o : Outcome Seen). followed_by o (destroy_untested run paths)) (path_same path state sound)
+
+pub destroys_untested : DestroysUntested
+destroys_untested update meets room = paths_same update meets room

@@ -16,7 +16,7 @@ use Rattle.tk_tree.specs.Path.{begins_upper, parent_and_name}
 use Rattle.tk_tree.specs.Window.{new_window, number_of}
 use Rattle.tk_tree.proofs.Lists.{find_below, find_numbered, find_passes, some_same}
 use Rattle.tk_app.proofs.Sound.{at, others, same_number, same_parent, sound_acts}
-use Rattle.tk_app.proofs.Trees.{HoldsOfActs, KeepsPlace}
+use Rattle.tk_app.proofs.Trees.{HoldsOfActs, HoldsOnScene, KeepsPlace, OnTrees, on_trees}
 
 -- the window that it was
 pub record Was (n : ℕ) (later : Window) (old : Tree) : Type 0 where
@@ -249,3 +249,6 @@ grow_acts = record {
   gone = λ number tree sound. (sound_acts.gone number tree sound, grow_gone number tree sound);
   made = λ path kind tree named may sound. (sound_acts.made path kind tree named may sound, grow_made path kind tree sound named may);
 }
+
+pub grow_on_scene : HoldsOnScene (OnTrees StaysAndGrows)
+grow_on_scene = on_trees StaysAndGrows grow_acts

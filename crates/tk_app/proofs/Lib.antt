@@ -15,15 +15,24 @@ mod Events
 mod Gone
 mod Grows
 mod Homes
+mod InOrder
+mod Items
+mod KeptByCalls
+mod KeptByCommands
+mod KeptByPanel
+mod KeptFrames
 mod LaidOut
 mod Left
+mod Loops
 mod Nexts
 mod Only
+mod Packed
 mod Panels
 pub mod Parts
 pub mod Passing
 mod Places
 mod PostOrder
+mod PreOrder
 mod Pushes
 pub mod Reached
 pub mod Rounds
@@ -36,6 +45,8 @@ mod Sound
 mod SoundBySettle
 pub mod SoundParts
 pub mod Stages
+mod Standing
+mod Stores
 mod Trees
 pub mod Views
 pub mod Waits

@@ -33,8 +33,8 @@ use Rattle.tk_app.specs.Settle.{IsSoundIn}
 use Rattle.tk_app.specs.Sound.{EndsSound}
 use Rattle.tk_app.proofs.Equations.{idle_there}
 use Rattle.tk_app.proofs.Panels.{chosen_screen, laid_screen}
-use Rattle.tk_app.proofs.Sound.{IsSoundShown, StaysSound, run_keeps, scripts_sound, sound_acts}
-use Rattle.tk_app.proofs.Trees.{end_screen, laid}
+use Rattle.tk_app.proofs.Sound.{IsSoundShown, StaysSound, run_keeps, scripts_sound, sound_on_scene}
+use Rattle.tk_app.proofs.Trees.{OnTrees, end_screen, laid}
 use Rattle.tk_screen.proofs.Twice.{laid_twice}
 
 -- the same where windows are sound and at most so many steps are left
@@ -213,7 +213,7 @@ module _ (room : ℕ) (run : RunsScripts) (same_run : AgreesRun IsSoundShown (ru
             let panel : Panel = laid_out state.store state.shows.panel in
             solved IsLaid laid_stays laid_lays panel.queue (with_whole_panel panel state) refl
             (ap (λ (windowing : Windowing). changes_due windowing state.store) (laid_screen state.store state.shows.panel) ∙ laid_twice state.shows.panel.windowing state.store sound)
-            (laid StaysSound sound_acts state.store state.shows.panel sound) less
+            (laid (OnTrees StaysSound) sound_on_scene state.store state.shows.panel sound) less
 
     agrees : (n : ℕ) → Agree n f g
     agrees zero state sound few =

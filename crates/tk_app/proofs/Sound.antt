@@ -45,30 +45,30 @@ use Rattle.tk_app.specs.Settle.{IsSoundIn}
 use Rattle.tk_app.specs.Sound.{EndsSound}
 use Rattle.tk_app.proofs.CommandTrees.{command_acts}
 use Rattle.tk_app.proofs.Panels.{chosen_screen}
-use Rattle.tk_app.proofs.Trees.{Acts, HoldsOfActs, KeepsPlace, both, by_screen, ended_acts, next_acts, start_acts}
+use Rattle.tk_app.proofs.Trees.{Acts, HoldsOfActs, HoldsOnScene, KeepsPlace, OnTrees, Scene, both, by_screen, ended_acts, next_acts, on_trees, scene_of, start_acts}
 
 -- ── scripts and jobs do what holds of their acts ──
 
-module _ (Q : Tree → Tree → Type 0) (acts : HoldsOfActs Q) (first : Tree) where
-  -- what has been done since the windows were these
+module _ (Q : Scene → Scene → Type 0) (acts : HoldsOnScene Q) (first : Scene) where
+  -- what has been done since the windows, and what is packed, were these
   abbrev pub Since : Seen → Type 0
-  Since seen = Q first seen.panel.windowing.tree
+  Since seen = Q first (scene_of seen.panel.windowing)
 
-  on : (old new : Panel) → Q first old.windowing.tree → Acts Q acts old new → Q first new.windowing.tree
-  on old new since done = acts.after first old.windowing.tree new.windowing.tree since done
+  on : (old new : Panel) → Q first (scene_of old.windowing) → Acts Q acts old new → Q first (scene_of new.windowing)
+  on old new since done = acts.after first (scene_of old.windowing) (scene_of new.windowing) since done
 
   begun_acts : (begun : Begun) (panel : Panel) → Acts Q acts panel (job_of begun panel).0
-  begun_acts Updates panel = acts.same panel.windowing.tree
-  begun_acts UpdatesIdleTasks panel = acts.same panel.windowing.tree
-  begun_acts (Destroys paths) panel = acts.same panel.windowing.tree
+  begun_acts Updates panel = acts.same (scene_of panel.windowing)
+  begun_acts UpdatesIdleTasks panel = acts.same (scene_of panel.windowing)
+  begun_acts (Destroys paths) panel = acts.same (scene_of panel.windowing)
   begun_acts (Dispatches event) panel = by_screen Q acts panel (chosen event panel).0 (chosen_screen event panel)
 
   told_acts : (came : CommandOutcome) (panel : Panel) (store : Store) → Acts Q acts panel (outcome_told came panel store).shows
-  told_acts (outcome.Acts act) panel store = acts.same panel.windowing.tree
+  told_acts (outcome.Acts act) panel store = acts.same (scene_of panel.windowing)
   told_acts (outcome.Begins begun) panel store =
       let there : Panel × Job = job_of begun panel in
       both Q acts panel there.0 (next there.1 store there.0).0 (begun_acts begun panel) (next_acts Q acts there.1 store there.0)
-  told_acts outcome.Unknown panel store = acts.same panel.windowing.tree
+  told_acts outcome.Unknown panel store = acts.same (scene_of panel.windowing)
 
   called_acts : (panel : Panel) (store : Store) (words : List (List ℕ)) → Acts Q acts panel (panel_calls panel store words).shows
   unfolding panel_calls
@@ -269,6 +269,9 @@ sound_acts = record {
   });
 }
 
+pub sound_on_scene : HoldsOnScene (OnTrees StaysSound)
+sound_on_scene = on_trees StaysSound sound_acts
+
 -- ── the law ──
 
 -- the windows that are shown are numbered so
@@ -277,23 +280,23 @@ IsSoundShown seen = IsSound seen.panel.windowing.tree
 
 pub shown_keeps : Keeps IsSoundShown outside
 shown_keeps = (
-  λ seen store words sound. call_since StaysSound sound_acts seen.panel.windowing.tree seen store words (λ same. same) sound,
-  λ seen store task code text sound. task_since StaysSound sound_acts seen.panel.windowing.tree seen store task code text (λ same. same) sound,
+  λ seen store words sound. call_since (OnTrees StaysSound) sound_on_scene (scene_of seen.panel.windowing) seen store words (λ same. same) sound,
+  λ seen store task code text sound. task_since (OnTrees StaysSound) sound_on_scene (scene_of seen.panel.windowing) seen store task code text (λ same. same) sound,
 )
 
 pub run_keeps : (room : ℕ) → KeepsRun IsSoundShown (run_in room)
 run_keeps room = kept_script IsSoundShown outside shown_keeps room
 
-ends_sound : (first : Tree) (outcome : Outcome Seen) → IsSound first → Kept (Since StaysSound sound_acts first) outcome → EndsSound outcome
+ends_sound : (first : Scene) (outcome : Outcome Seen) → IsSound first.0 → Kept (Since (OnTrees StaysSound) sound_on_scene first) outcome → EndsSound outcome
 ends_sound first (Ended state code text) sound kept = kept sound
 ends_sound first (OutOfSteps state) sound kept = tt
 
 pub scripts_sound : (room : ℕ) (state : State Seen) → IsSoundIn state → (script : List ℕ) → EndsSound (global_meaning (run_in room) script state)
 scripts_sound room state sound script =
-    let first : Tree = state.shows.panel.windowing.tree in
-    ends_sound first (global_meaning (run_in room) script state) sound (global_since StaysSound sound_acts first room script state (λ same. same))
+    let first : Scene = scene_of state.shows.panel.windowing in
+    ends_sound first (global_meaning (run_in room) script state) sound (global_since (OnTrees StaysSound) sound_on_scene first room script state (λ same. same))
 
 pub jobs_sound : (room : ℕ) (state : State Seen) → IsSoundIn state → (job : Job) → EndsSound (meaning room job state)
 jobs_sound room state sound job =
-    let first : Tree = state.shows.panel.windowing.tree in
-    ends_sound first (meaning room job state) sound (job_since StaysSound sound_acts first room job state (λ same. same))
+    let first : Scene = scene_of state.shows.panel.windowing in
+    ends_sound first (meaning room job state) sound (job_since (OnTrees StaysSound) sound_on_scene first room job state (λ same. same))

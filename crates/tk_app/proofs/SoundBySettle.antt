@@ -3,30 +3,38 @@ use Rattle.std.proofs.Common.{◌≡◌, ℕ, List, [], sym, ◌∙◌, subst}
 use Rattle.tcl_control.specs.declared.code.Code.{Code}
 use Rattle.tcl_control.specs.declared.code.Code.TheVariants.{Normal}
 use Rattle.tcl_interp.specs.Evaluation.{State, Outcome, Ended}
+use Rattle.tk_screen.specs.Own.{Windowing}
 use Rattle.tk_app.specs.Application.{Application}
 use Rattle.tk_app.specs.Commands.{Update}
 use Rattle.tk_app.specs.Dispatch.{Action}
 use Rattle.tk_app.specs.LaidOut.{LeavesLaidOut, LeavesSettled}
 use Rattle.tk_app.specs.Seen.{Meaning, Seen}
 use Rattle.tk_app.specs.Settle.{IsSettle, IsSoundIn, IsUpdate}
-use Rattle.tk_app.specs.SettleJob.{settle_meaning, settling}
-use Rattle.tk_app.specs.Sound.{EndsSound, RunsSound, StaysSound}
+use Rattle.tk_app.specs.SettleJob.{settle_meaning, settling, update_meaning}
+use Rattle.tk_app.specs.Sound.{AreSound, EndsSound, RunsWith, StaysSound, StaysWith}
 use Rattle.tk_app.proofs.BySettle.{by_settle}
 use Rattle.tk_app.proofs.ByUpdate.{keeps_sound, only_settle}
 use Rattle.tk_app.proofs.LaidOut.{ends_laid_out, settles_twice}
 use Rattle.tk_app.proofs.SoundParts.{stays_sound}
 
-pub stays_sound_by : {M : Type 0} (answer : M → Meaning) → StaysSound answer
-stays_sound_by {M} answer update is_update settle meets = record {
-  fresh = (stays_sound answer).fresh;
-  started = λ moment script application sound.
-      subst (λ (next : Application M). RunsSound next) ((by_settle answer).started update is_update settle meets moment script application sound)
-      ((stays_sound answer).started moment script application sound);
-  delivered = (stays_sound answer).delivered;
-  settled = λ moment application sound.
-      subst (λ (next : Application M). RunsSound next) ((by_settle answer).settled update is_update settle meets moment application sound)
-      ((stays_sound answer).settled moment application sound);
+-- what holds of sound windows by the code's jobs holds by whatever meets the equations
+pub stays_by : {M : Type 0} (answer : M → Meaning) (holds : Windowing → Type 0) → ((own : Windowing) → holds own → AreSound own)
+    → StaysWith answer update_meaning settle_meaning holds → (update : Update) → IsUpdate update → (settle : Action) → IsSettle update settle → StaysWith answer update settle holds
+stays_by {M} answer holds sound stays update is_update settle meets = record {
+  fresh = stays.fresh;
+  started = λ moment script application held.
+      subst (λ (next : Application M). RunsWith holds next)
+      ((by_settle answer).started update is_update settle meets moment script application (sound application.windowing held))
+      (stays.started moment script application held);
+  delivered = stays.delivered;
+  settled = λ moment application held.
+      subst (λ (next : Application M). RunsWith holds next)
+      ((by_settle answer).settled update is_update settle meets moment application (λ runs. sound application.windowing (held runs)))
+      (stays.settled moment application held);
 }
+
+pub stays_sound_by : {M : Type 0} (answer : M → Meaning) → StaysSound answer
+stays_sound_by answer = stays_by answer AreSound (λ own sound. sound) (stays_sound answer)
 
 module _ (update : Update) (is_update : IsUpdate update) (settle : Action) (meets : IsSettle update settle) (state after : State Seen) (code : Code) (text : List ℕ)
     (sound : IsSoundIn state) (is : settle state ≡ Ended after code text) where

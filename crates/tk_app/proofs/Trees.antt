@@ -1,4 +1,4 @@
--- What commands and jobs do to the windows of an application: a few acts, one after another.
+-- What commands and jobs do to the windows of an application, and to what is packed: a few acts, one after another.
 use Rattle.std.proofs.Common.{◌≡◌, ℕ, Bool, true, false, cond, List, [], ◌∷◌, Option, Some, None, refl, sym, subst}
 use Rattle.std.specs.Prelude.{codes, length, ◌==◌}
 use Rattle.std.specs.Str.{bytes_eq}
@@ -11,6 +11,8 @@ use Rattle.tk_base.specs.declared.kind.Kind.{Kind}
 use Rattle.tk_base.specs.declared.rect.Rect.{Rect}
 use Rattle.tk_packer.specs.declared.changes.PlaceChange.{PlaceChange}
 use Rattle.tk_packer.specs.declared.changes.PlaceChange.TheVariants.{Unmap, Configure, Map}
+use Rattle.tk_packer.specs.Packs.{Packing, without_window as without_packs}
+use Rattle.tk_pack_commands.specs.Pack.{pack_words}
 use Rattle.tk_screen.specs.Layout.{changes_due, laid_out_windowing}
 use Rattle.tk_screen.specs.Own.{Windowing}
 use Rattle.tk_screen.specs.Placing.{mapped_as, placed_at, with_changed, with_changes}
@@ -38,13 +40,44 @@ pub record KeepsPlace (change : Window → Window) : Type 0 where
   pub parent : (window : Window) → (change window).parent ≡ window.parent
   pub dying : (window : Window) → window.dying ≡ true → (change window).dying ≡ true
 
--- what holds of each of these acts, and of one after another
+-- what holds of each of these acts on windows, and of one after another
 pub record HoldsOfActs (Q : Tree → Tree → Type 0) : Type 0 where
   pub same : (tree : Tree) → Q tree tree
   pub after : (first mid last : Tree) → Q first mid → Q mid last → Q first last
   pub changed : (number : ℕ) (change : Window → Window) (tree : Tree) → KeepsPlace change → Q tree (with_change number change tree)
   pub gone : (number : ℕ) (tree : Tree) → Q tree (without_window number tree)
   pub made : (path : List ℕ) (kind : Kind) (tree : Tree) → bytes_eq path (codes ".") ≡ false → refusal path tree ≡ None → Q tree (with_window path kind (parent_number path tree) tree)
+
+-- windows, and what is packed of them
+abbrev pub Scene : Type 0
+Scene = Tree × Packing
+
+abbrev pub scene_of : Windowing → Scene
+scene_of own = (own.tree, own.packs)
+
+-- what holds of each of these acts on windows and on what is packed, and of one after another
+pub record HoldsOnScene (Q : Scene → Scene → Type 0) : Type 0 where
+  pub same : (scene : Scene) → Q scene scene
+  pub after : (first mid last : Scene) → Q first mid → Q mid last → Q first last
+  pub changed : (number : ℕ) (change : Window → Window) (scene : Scene) → KeepsPlace change → Q scene (with_change number change scene.0, scene.1)
+  pub gone : (number : ℕ) (scene : Scene) → Q scene (without_window number scene.0, without_packs number scene.1)
+  pub made : (path : List ℕ) (kind : Kind) (scene : Scene) → bytes_eq path (codes ".") ≡ false → refusal path scene.0 ≡ None
+      → Q scene (with_window path kind (parent_number path scene.0) scene.0, scene.1)
+  pub packed : (words : List (List ℕ)) (scene : Scene) → Q scene (scene.0, (pack_words words scene.0 scene.1).0)
+
+-- what holds of windows, whatever is packed
+abbrev pub OnTrees : (Tree → Tree → Type 0) → Scene → Scene → Type 0
+OnTrees Q old new = Q old.0 new.0
+
+pub on_trees : (Q : Tree → Tree → Type 0) → HoldsOfActs Q → HoldsOnScene (OnTrees Q)
+on_trees Q acts = record {
+  same = λ scene. acts.same scene.0;
+  after = λ first mid last. acts.after first.0 mid.0 last.0;
+  changed = λ number change scene. acts.changed number change scene.0;
+  gone = λ number scene. acts.gone number scene.0;
+  made = λ path kind scene. acts.made path kind scene.0;
+  packed = λ words scene. acts.same scene.0;
+}
 
 -- ── what leaves the screen ──
 
@@ -91,46 +124,47 @@ destroy_screen : (panel : Panel) (window : Option Window) → (destroy_at panel 
 destroy_screen panel None = refl
 destroy_screen panel (Some window) = chosen_screen (destroy_event window panel.moment) panel
 
-module _ (Q : Tree → Tree → Type 0) (acts : HoldsOfActs Q) where
+module _ (Q : Scene → Scene → Type 0) (acts : HoldsOnScene Q) where
   -- ── layout ──
 
-  mapped : (number : ℕ) (is_mapped : Bool) (found : Option Window) (tree : Tree) → Q tree (mapped_as number is_mapped found tree)
-  mapped number is_mapped None tree = acts.same tree
-  mapped number is_mapped (Some window) tree =
-      acts.changed number (with_place window.rectangle is_mapped) tree (record { number = λ w. refl; parent = λ w. refl; dying = λ w is. is })
+  mapped : (number : ℕ) (is_mapped : Bool) (found : Option Window) (scene : Scene) → Q scene (mapped_as number is_mapped found scene.0, scene.1)
+  mapped number is_mapped None scene = acts.same scene
+  mapped number is_mapped (Some window) scene =
+      acts.changed number (with_place window.rectangle is_mapped) scene (record { number = λ w. refl; parent = λ w. refl; dying = λ w is. is })
 
-  placed : (number : ℕ) (place : Rect) (found : Option Window) (tree : Tree) → Q tree (placed_at number place found tree)
-  placed number place None tree = acts.same tree
-  placed number place (Some window) tree =
-      acts.changed number (with_place place window.mapped) tree (record { number = λ w. refl; parent = λ w. refl; dying = λ w is. is })
+  placed : (number : ℕ) (place : Rect) (found : Option Window) (scene : Scene) → Q scene (placed_at number place found scene.0, scene.1)
+  placed number place None scene = acts.same scene
+  placed number place (Some window) scene =
+      acts.changed number (with_place place window.mapped) scene (record { number = λ w. refl; parent = λ w. refl; dying = λ w is. is })
 
-  one_changed : (change : PlaceChange) (tree : Tree) → Q tree (with_changed change tree)
-  one_changed (Unmap number) tree = mapped number false (window_at number tree) tree
-  one_changed (Configure number place) tree = placed number place (window_at number tree) tree
-  one_changed (Map number) tree = mapped number true (window_at number tree) tree
+  one_changed : (change : PlaceChange) (scene : Scene) → Q scene (with_changed change scene.0, scene.1)
+  one_changed (Unmap number) scene = mapped number false (window_at number scene.0) scene
+  one_changed (Configure number place) scene = placed number place (window_at number scene.0) scene
+  one_changed (Map number) scene = mapped number true (window_at number scene.0) scene
 
-  all_changed : (changes : List PlaceChange) (tree : Tree) → Q tree (with_changes changes tree)
+  all_changed : (changes : List PlaceChange) (scene : Scene) → Q scene (with_changes changes scene.0, scene.1)
   unfolding with_changes
-  all_changed [] tree = acts.same tree
-  all_changed (change ∷ changes) tree =
-      acts.after tree (with_changed change tree) (with_changes changes (with_changed change tree)) (one_changed change tree) (all_changed changes (with_changed change tree))
+  all_changed [] scene = acts.same scene
+  all_changed (change ∷ changes) scene =
+      let next : Scene = (with_changed change scene.0, scene.1) in
+      acts.after scene next (with_changes changes next.0, scene.1) (one_changed change scene) (all_changed changes next)
 
-  laid_tree : (own : Windowing) (store : Store) → Q own.tree (laid_out_windowing own store).tree
+  laid_scene : (own : Windowing) (store : Store) → Q (scene_of own) (scene_of (laid_out_windowing own store))
   unfolding laid_out_windowing
-  laid_tree own store = all_changed (changes_due own store) own.tree
+  laid_scene own store = all_changed (changes_due own store) (scene_of own)
 
   -- from one panel to another
   abbrev pub Acts : Panel → Panel → Type 0
-  Acts old new = Q old.windowing.tree new.windowing.tree
+  Acts old new = Q (scene_of old.windowing) (scene_of new.windowing)
 
   pub by_screen : (old new : Panel) → new.windowing ≡ old.windowing → Acts old new
-  by_screen old new same = subst (λ (windowing : Windowing). Q old.windowing.tree windowing.tree) (sym same) (acts.same old.windowing.tree)
+  by_screen old new same = subst (λ (windowing : Windowing). Q (scene_of old.windowing) (scene_of windowing)) (sym same) (acts.same (scene_of old.windowing))
 
   pub both : (first mid last : Panel) → Acts first mid → Acts mid last → Acts first last
-  both first mid last one other = acts.after first.windowing.tree mid.windowing.tree last.windowing.tree one other
+  both first mid last one other = acts.after (scene_of first.windowing) (scene_of mid.windowing) (scene_of last.windowing) one other
 
   pub laid : (store : Store) (panel : Panel) → Acts panel (laid_out_panel store panel)
-  laid store panel = subst (λ (windowing : Windowing). Q panel.windowing.tree windowing.tree) (sym (laid_screen store panel)) (laid_tree panel.windowing store)
+  laid store panel = subst (λ (windowing : Windowing). Q (scene_of panel.windowing) (scene_of windowing)) (sym (laid_screen store panel)) (laid_scene panel.windowing store)
 
   -- ── *Destroy* ──
 
@@ -139,27 +173,28 @@ module _ (Q : Tree → Tree → Type 0) (acts : HoldsOfActs Q) where
   removed_acts number panel = by (window_at number panel.windowing.tree)
     where
       leaf : (window : Window) (b : Bool) → Acts panel (cond b (without_path number window.path panel) panel)
-      leaf window true = acts.gone number panel.windowing.tree
-      leaf window false = acts.same panel.windowing.tree
+      leaf window true = acts.gone number (scene_of panel.windowing)
+      leaf window false = acts.same (scene_of panel.windowing)
 
       by : (window : Option Window) → Acts panel (removed_at number panel window)
-      by None = acts.same panel.windowing.tree
+      by None = acts.same (scene_of panel.windowing)
       by (Some window) = leaf window (length (child_numbers number panel.windowing.tree.windows) == 0)
 
-  pub dying_acts : (numbers : List ℕ) (tree : Tree) → Q tree (all_dying numbers tree)
+  pub dying_acts : (numbers : List ℕ) (scene : Scene) → Q scene (all_dying numbers scene.0, scene.1)
   unfolding all_dying
-  dying_acts [] tree = acts.same tree
-  dying_acts (number ∷ numbers) tree =
-      acts.after tree (with_change number dying tree) (all_dying numbers (with_change number dying tree))
-      (acts.changed number dying tree (record { number = λ w. refl; parent = λ w. refl; dying = λ w is. refl }))
-      (dying_acts numbers (with_change number dying tree))
+  dying_acts [] scene = acts.same scene
+  dying_acts (number ∷ numbers) scene =
+      let next : Scene = (with_change number dying scene.0, scene.1) in
+      acts.after scene next (all_dying numbers next.0, scene.1)
+      (acts.changed number dying scene (record { number = λ w. refl; parent = λ w. refl; dying = λ w is. refl }))
+      (dying_acts numbers next)
 
   pub marked_acts : (numbers : List ℕ) (panel : Panel) → Acts panel (marked numbers panel)
-  marked_acts numbers panel = dying_acts numbers panel.windowing.tree
+  marked_acts numbers panel = dying_acts numbers (scene_of panel.windowing)
 
   doomed_acts : (numbers : List ℕ) (panel : Panel) → Acts panel (next_doomed numbers panel).panel
   unfolding next_doomed
-  doomed_acts [] panel = acts.same panel.windowing.tree
+  doomed_acts [] panel = acts.same (scene_of panel.windowing)
   doomed_acts (number ∷ numbers) panel =
       let there : Panel × List (List ℕ) = destroy_chosen number panel in
       by there.1 there.0 (destroy_screen panel (window_at number panel.windowing.tree)) (doomed_acts numbers (removed number there.0))
@@ -185,23 +220,23 @@ module _ (Q : Tree → Tree → Type 0) (acts : HoldsOfActs Q) where
 
   destroys_come : (paths : List (List ℕ)) (panel : Panel) → Comes panel (destroys paths panel)
   unfolding destroys
-  destroys_come [] panel = acts.same panel.windowing.tree
+  destroys_come [] panel = acts.same (scene_of panel.windowing)
   destroys_come (path ∷ paths) panel =
       let numbers : List ℕ = doomed_by path panel in
       both panel (marked numbers panel) (doomed_next paths (destroys paths) numbers (marked numbers panel)).0 (marked_acts numbers panel)
       (doomed_comes paths (destroys paths) (destroys_come paths) numbers (marked numbers panel))
 
   last_acts : (window : Option ℕ) (panel : Panel) → Acts panel (without_last window panel)
-  last_acts None panel = acts.same panel.windowing.tree
+  last_acts None panel = acts.same (scene_of panel.windowing)
   last_acts (Some number) panel = removed_acts number panel
 
   round_comes : (home : Home) (ids : List ℕ) (panel : Panel) → Comes panel (on_round home ids panel)
-  round_comes home [] panel = acts.same panel.windowing.tree
-  round_comes home (id ∷ ids) panel = acts.same panel.windowing.tree
+  round_comes home [] panel = acts.same (scene_of panel.windowing)
+  round_comes home (id ∷ ids) panel = acts.same (scene_of panel.windowing)
 
   event_comes : (home : Home) (otherwise : Panel → Next) → ((panel : Panel) → Comes panel (otherwise panel)) → (panel : Panel) (scripts : List (List ℕ)) → Comes panel (on_event home otherwise panel scripts)
   event_comes home otherwise later panel [] = later panel
-  event_comes home otherwise later panel (script ∷ scripts) = acts.same panel.windowing.tree
+  event_comes home otherwise later panel (script ∷ scripts) = acts.same (scene_of panel.windowing)
 
   layout_comes : (home : Home) (store : Store) (panel : Panel) → Comes panel (after_layout home store panel)
   unfolding queue_or_round
@@ -216,7 +251,7 @@ module _ (Q : Tree → Tree → Type 0) (acts : HoldsOfActs Q) where
   timer_comes home store panel = by (is_due panel.moment panel.timers.entries)
     where
       by : (b : Bool) → Comes panel (cond b (panel, Some (record { event = None; rest = Rounds [] home })) (after_layout home store panel))
-      by true = acts.same panel.windowing.tree
+      by true = acts.same (scene_of panel.windowing)
       by false = layout_comes home store panel
 
   turn_comes : (home : Home) (store : Store) (panel : Panel) → Comes panel (turn home store panel)
@@ -228,13 +263,13 @@ module _ (Q : Tree → Tree → Type 0) (acts : HoldsOfActs Q) where
 
   tasks_come : (store : Store) (ids : List ℕ) (panel : Panel) → Comes panel (tasks_round store ids panel)
   tasks_come store [] panel = laid store panel
-  tasks_come store (id ∷ ids) panel = acts.same panel.windowing.tree
+  tasks_come store (id ∷ ids) panel = acts.same (scene_of panel.windowing)
 
   home_comes : (home : Home) (store : Store) (panel : Panel) → Comes panel (at_home home store panel)
   home_comes Settle store panel = by (is_closed panel)
     where
       by : (b : Bool) → Comes panel (cond b (panel, None) (turn Settle store panel))
-      by true = acts.same panel.windowing.tree
+      by true = acts.same (scene_of panel.windowing)
       by false = turn_comes Settle store panel
   home_comes Update store panel = turn_comes Update store panel
   home_comes IdleTasks store panel =
@@ -244,17 +279,17 @@ module _ (Q : Tree → Tree → Type 0) (acts : HoldsOfActs Q) where
 
   left_comes : (home : Home) (store : Store) (ids : List ℕ) (panel : Panel) → Comes panel (after_round home store ids panel)
   left_comes home store [] panel = home_comes home store panel
-  left_comes home store (id ∷ ids) panel = acts.same panel.windowing.tree
+  left_comes home store (id ∷ ids) panel = acts.same (scene_of panel.windowing)
 
   rest_comes : (rest : Rest) (store : Store) (panel : Panel) → Comes panel (next_rest rest store panel)
-  rest_comes NoRest store panel = acts.same panel.windowing.tree
+  rest_comes NoRest store panel = acts.same (scene_of panel.windowing)
   rest_comes (Destroys window doomed paths) store panel =
       both panel (without_last window panel) (doomed_next paths (destroys paths) doomed (without_last window panel)).0 (last_acts window panel)
       (doomed_comes paths (destroys paths) (destroys_come paths) doomed (without_last window panel))
   rest_comes (Rounds ids home) store panel = left_comes home store (still_waiting ids panel.timers.entries) panel
 
   by_next : (event : Option (List (List ℕ))) (rest : Rest) (store : Store) (panel : Panel) → Comes panel (next_event event rest store panel)
-  by_next (Some (script ∷ scripts)) rest store panel = acts.same panel.windowing.tree
+  by_next (Some (script ∷ scripts)) rest store panel = acts.same (scene_of panel.windowing)
   by_next (Some []) rest store panel = rest_comes rest store panel
   by_next None rest store panel = rest_comes rest store panel
 

@@ -1,6 +1,6 @@
 -- Meaning. An application as lists and values.
 use Rattle.std.specs.Prelude.{ℕ, List, [], ◌∷◌, ◌++◌, Option, None}
-use Rattle.tcl_control.specs.Table.{NamedCommands, first_commands}
+use Rattle.tcl_table.specs.Table.{NamedCommands, first_commands}
 use Rattle.tcl_vars.specs.Store.{Store}
 use Rattle.tk_after.specs.Timers.{Timers, due_moments, least}
 use Rattle.tk_sequences.specs.declared.event.Event.{Event}

@@ -1,7 +1,7 @@
 -- Meaning. What a command comes to that a script of an application calls, beside Tcl's own; and so what its scripts come to.
 use Rattle.std.specs.Prelude.{ℕ, List, [], ◌∷◌, Option, Some, None, Ok, Err}
 use Rattle.tcl_control.specs.declared.code.Code.TheVariants.{Normal, Error}
-use Rattle.tcl_control.specs.Texts.{unknown_command}
+use Rattle.tcl_table.specs.Texts.{unknown_command}
 use Rattle.tcl_interp.specs.Evaluation.{Ended, and_then}
 use Rattle.tcl_interp.specs.Scripts.{CommandMeaning, at_global, out_of_global, scripts_by}
 use Rattle.tk_alias.specs.Replies.{Answer}

@@ -9,11 +9,13 @@ pub mod Dispatch
 pub mod Due
 pub mod Dues
 pub mod Gone
+pub mod InOrder
 pub mod Inspection
 pub mod Items
 pub mod JobLaws
 pub mod Jobs
 pub mod LaidOut
+pub mod Loops
 pub mod Moments
 pub mod MomentsByJob
 pub mod Names
@@ -31,5 +33,6 @@ pub mod Sound
 pub mod SoundByJob
 pub mod Spec
 pub mod Stages
+pub mod Stores
 pub mod Together
 pub mod Turns

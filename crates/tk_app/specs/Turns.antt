@@ -6,7 +6,7 @@ use Rattle.tcl_interp.specs.declared.interp.SliceEnd.{SliceEnd}
 use Rattle.tcl_interp.specs.declared.interp.SliceEnd.TheVariants as slice
 use Rattle.tcl_interp.specs.Finish.{RestToDo, Idle, Spent, Broken}
 use Rattle.tcl_interp.specs.Interp.{IsRunning}
-use Rattle.tcl_control.specs.Table.{NamedCommands, first_commands}
+use Rattle.tcl_table.specs.Table.{NamedCommands, first_commands}
 use Rattle.tcl_interp.specs.declared.job.Task.{Task}
 use Rattle.tcl_interp.specs.declared.job.Task.TheVariants as task
 use Rattle.tk_base.specs.declared.local_event.LocalEvent.{LocalEvent}

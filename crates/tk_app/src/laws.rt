@@ -10,7 +10,7 @@ ghost use Rattle.tk_app.specs.Begun.{
   UpdateIs,
 };
 ghost use Rattle.tk_app.specs.Dues.{DueTakesAStep, SettledIsPast, StartedIsPast};
-ghost use Rattle.tk_app.specs.Gone.{DestroysAll};
+ghost use Rattle.tk_app.specs.Gone.{DestroysAll, DestroysUntested};
 ghost use Rattle.tk_app.specs.Part.{BeginsWithScript, SettlesFromRest};
 ghost use Rattle.tk_app.specs.Jobs.{GoesByNext};
 ghost use Rattle.tk_app.specs.JobLaws.{
@@ -31,8 +31,10 @@ ghost use Rattle.tk_app.specs.SettleJob.{
   Updates,
 };
 ghost use Rattle.tk_app.specs.LaidOut.{LeavesLaidOut, LeavesSettled};
-ghost use Rattle.tk_app.specs.Sound.{ScriptsKeepSound, ScriptsTakeNoSteps, StaysSound};
+ghost use Rattle.tk_app.specs.Loops.{LoopsGoRound, OnlyLoops};
+ghost use Rattle.tk_app.specs.Sound.{ItemsKeepSound, ScriptsKeepSound, ScriptsTakeNoSteps, StaysSound};
 ghost use Rattle.tk_app.specs.SoundByJob.{BySettle, KeepsSound};
+ghost use Rattle.tk_app.specs.Stores.{LinksStay, ScriptsStand, StandingLeads};
 
 use tk_alias::AliasMeaning;
 
@@ -88,21 +90,33 @@ pub fn behind_is_then()
 
 /// *Destroy*: of each path the window and all below it, in post-order. Each that is still there has its Destroy event dispatched, and then goes
 /// with its bindings, if it is there still (destroy(n)). Once that has ended none of them is there: each had no children left when its turn came,
-/// whatever the scripts did.
+/// whatever the scripts did; so a removal that doesn't test that comes to the same, also where the steps give out.
 pub fn destroys()
     ensures job { Destroys }
     ensures gone { DestroysAll }
+    ensures untested { DestroysUntested }
 {}
 
-/// Whatever scripts and jobs do, the windows stay numbered as they were made, each behind its parent, as these equations want it.
+/// Whatever scripts, jobs and each item of what is to be done at a moment do, the windows stay numbered as they were made, each behind its parent, as these
+/// equations want it.
 pub fn keeps_sound()
     ensures scripts { ScriptsKeepSound }
+    ensures items { ItemsKeepSound }
     ensures jobs { KeepsSound }
 {}
 
 /// So they are in an application from its beginning on, as long as it runs.
 pub fn stays_sound<M: AliasMeaning>()
     ensures { StaysSound M.answer }
+{}
+
+/// Whatever scripts do, each link of their variables leads to an earlier frame, and each level is that of a frame that is there; a script leaves the levels
+/// that it began at, and as many frames. So it is in an application from its beginning on. In each such state a place leads where its equation says, and
+/// the frame that is seen is that of the last level.
+pub fn keeps_links<M: AliasMeaning>()
+    ensures leads { StandingLeads }
+    ensures scripts { ScriptsStand }
+    ensures stays { LinksStay M.answer }
 {}
 
 /// What the commands of an application come to by the equations, and by the job of `update`, is what its interpreter makes of them, by jobs and their
@@ -113,6 +127,13 @@ pub fn scripts_by_equations()
     ensures scripts { ScriptsAreRun }
     ensures update { OneUpdate }
     ensures steps { ScriptsTakeNoSteps }
+{}
+
+/// A loop in a script of an application is a step, its test, its body with what `for` runs behind it, and the loop again (while(n), for(n), foreach(n)), by
+/// whatever meets the equation of `update`. Nothing else meets that equation.
+pub fn loops_go_round()
+    ensures equation { LoopsGoRound }
+    ensures only { OnlyLoops }
 {}
 
 /// Where no alias serves their names, commands do what these equations say, by whatever name they are called: `update` and `update idletasks`, `destroy`, an

@@ -20,11 +20,11 @@ mod view;
 
 pub use laws::{
     begins_with_script, behind_is_then, comes_by_settle, commands_begin_jobs, destroys, dispatches,
-    due_takes_a_step, ends_laid_out, goes_by_next, keeps_sound, scripts_by_equations,
+    due_takes_a_step, ends_laid_out, goes_by_next, keeps_links, keeps_sound, scripts_by_equations,
     settled_is_past, settles, settles_from_rest, settles_twice, started_is_past, stays_sound,
     updates, updates_idle_tasks,
 };
-pub use layout_laws::lies_by_masters;
+pub use layout_laws::{lies_by_masters, lies_in_order};
 pub use shared::Shared;
 pub use size::Size;
 pub use state::{AppEnd, AppState};

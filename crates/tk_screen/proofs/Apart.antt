@@ -23,15 +23,15 @@ Disjoint [] ys = Unit {0}
 Disjoint (x ∷ xs) ys = Absent x ys × Disjoint xs ys
 
 -- each number is above this one
-abbrev Above : ℕ → List ℕ → Type 0
+abbrev pub Above : ℕ → List ℕ → Type 0
 Above n [] = Unit {0}
 Above n (m ∷ ms) = (n < m) × Above n ms
 
-absent_above : (n : ℕ) (ms : List ℕ) → Above n ms → Absent n ms
+pub absent_above : (n : ℕ) (ms : List ℕ) → Above n ms → Absent n ms
 absent_above n [] above = tt
 absent_above n (m ∷ ms) above = ((λ same. omega (arith, same, above.0)), absent_above n ms above.1)
 
-above_from : (n m : ℕ) (ms : List ℕ) → n < m → Above m ms → Above n ms
+pub above_from : (n m : ℕ) (ms : List ℕ) → n < m → Above m ms → Above n ms
 above_from n m [] lt above = tt
 above_from n m (k ∷ ms) lt above = (omega (arith, lt, above.0), above_from n m ms lt above.1)
 
@@ -39,7 +39,7 @@ above_both : (n : ℕ) (xs ys : List ℕ) → Above n xs → Above n ys → Abov
 above_both n [] ys one other = other
 above_both n (x ∷ xs) ys one other = (one.0, above_both n xs ys one.1 other)
 
-absent_both : (n : ℕ) (xs ys : List ℕ) → Absent n xs → Absent n ys → Absent n (xs ++ ys)
+pub absent_both : (n : ℕ) (xs ys : List ℕ) → Absent n xs → Absent n ys → Absent n (xs ++ ys)
 absent_both n [] ys one other = other
 absent_both n (x ∷ xs) ys one other = (one.0, absent_both n xs ys one.1 other)
 
@@ -61,22 +61,22 @@ once_both (x ∷ xs) ys one other apart = (absent_both x xs ys one.0 apart.0, on
 
 -- ── a child ──
 
-child_is : (number : ℕ) (window : Window) → is_child_of number window ≡ true → window.parent ≡ Some number
+pub child_is : (number : ℕ) (window : Window) → is_child_of number window ≡ true → window.parent ≡ Some number
 child_is number window is = by window.parent refl
   where
     by : (parent : Option ℕ) → window.parent ≡ parent → window.parent ≡ Some number
     by None its = absurd (cc (rw its at is))
     by (Some p) its = its ∙ ap Some (eqb-true p number (rw its at is))
 
-older : (number : ℕ) (window : Window) → HasOlderParent window → is_child_of number window ≡ true → number < window.number
+pub older : (number : ℕ) (window : Window) → HasOlderParent window → is_child_of number window ≡ true → number < window.number
 older number window its is = subst (λ parent. MatchOption parent (Unit {0}) (λ p. p < window.number)) (child_is number window is) its
 
-one_parent : (a b : ℕ) (window : Window) → is_child_of a window ≡ true → is_child_of b window ≡ true → a ≡ b
+pub one_parent : (a b : ℕ) (window : Window) → is_child_of a window ≡ true → is_child_of b window ≡ true → a ≡ b
 one_parent a b window is its = let same : Some a ≡ Some b = sym (child_is a window is) ∙ child_is b window its in cc
 
 -- ── what is below a window ──
 
-above_in : (n number : ℕ) (windows : List Window) → AllAbove number_of n windows → Above n (below number windows)
+pub above_in : (n number : ℕ) (windows : List Window) → AllAbove number_of n windows → Above n (below number windows)
 unfolding below
 above_in n number [] above = tt
 above_in n number (window ∷ windows) above = by (is_child_of number window) (above_in n window.number windows above.1) (above_in n number windows above.1)
@@ -87,7 +87,7 @@ above_in n number (window ∷ windows) above = by (is_child_of number window) (a
     by false own others = others
 
 -- each is above the window
-above_itself : (number : ℕ) (windows : List Window) → IsRising number_of windows → HaveOlderParents windows → Above number (below number windows)
+pub above_itself : (number : ℕ) (windows : List Window) → IsRising number_of windows → HaveOlderParents windows → Above number (below number windows)
 unfolding below
 above_itself number [] rising parents = tt
 above_itself number (window ∷ windows) rising parents = by (is_child_of number window) refl (above_itself number windows rising.1 parents.1)
@@ -121,7 +121,7 @@ apart_below a b (window ∷ windows) rising differ one other =
         (disjoint_right (below a windows) (below window.number windows) (below b windows) right both)
     by false false is its both left right = both
 
-above_more : (n m : ℕ) (windows : List Window) → n < m → AllAbove number_of m windows → AllAbove number_of n windows
+pub above_more : (n m : ℕ) (windows : List Window) → n < m → AllAbove number_of m windows → AllAbove number_of n windows
 above_more n m [] lt above = tt
 above_more n m (window ∷ windows) lt above = (omega (arith, lt, above.0), above_more n m windows lt above.1)
 

@@ -1,5 +1,5 @@
 -- Lemmas.
-mod Apart
+pub mod Apart
 mod Escapes
 pub mod Laid
 mod Listed

@@ -169,7 +169,7 @@ same_read tree (x ∷ ones) (y ∷ others) same one other = first ∙ ap (λ ys.
 
 module _ (own : Windowing) (store : Store) where
   -- the window of a shape that was read, which has the shape's number
-  read_by : (n : ℕ) (window : Option Window) (widget : Option Widget) → window_at n own.tree ≡ window → (shape : Shape) → shape_by own.packs store window widget ≡ Some shape → (shape.number ≡ n) × IsRead own.tree shape
+  pub read_by : (n : ℕ) (window : Option Window) (widget : Option Widget) → window_at n own.tree ≡ window → (shape : Shape) → shape_by own.packs store window widget ≡ Some shape → (shape.number ≡ n) × IsRead own.tree shape
   unfolding shape_of
   read_by n None widget is shape seen = absurd (cc)
   read_by n (Some window) None is shape seen = absurd (cc)
@@ -188,7 +188,7 @@ module _ (own : Windowing) (store : Store) where
       by None is rest = rest
       by (Some shape) is rest = ((read_by n (window_at n own.tree) (widget_at n own.widgets) refl shape is).1, rest)
 
-  none_absent : (n : ℕ) (ns : List ℕ) → Absent n ns → IsOfNone n (filter_map (shape_at own store) ns)
+  pub none_absent : (n : ℕ) (ns : List ℕ) → Absent n ns → IsOfNone n (filter_map (shape_at own store) ns)
   unfolding IsOfNone
   none_absent n [] absent = tt
   none_absent n (m ∷ ns) absent = by (shape_at own store m) refl (none_absent n ns absent.1)
@@ -219,7 +219,7 @@ module _ (own : Windowing) (store : Store) where
   unfolding shapes
   read = all_read (pre_order own.tree)
 
-  apart : IsSound own.tree → AreApart (shapes own store)
+  pub apart : IsSound own.tree → AreApart (shapes own store)
   unfolding shapes
   apart sound = all_apart (pre_order own.tree) (once_in_order sound)
 

@@ -5,7 +5,8 @@ use Rattle.tcl_commands.specs.declared.branches.Branch.{Branch}
 use Rattle.tcl_commands.specs.declared.branches.Clause.{Clause}
 use Rattle.tcl_commands.specs.declared.branches.Clause.TheVariants.{AtTest, AtThen, AtBody, Behind, AtLast, AtEnd}
 use Rattle.tcl_commands.specs.declared.branches.Choices.{Choices}
-use Rattle.tcl_commands.specs.Branches.{branch_of, with_branch, choices_from, choices_of}
+use Rattle.tcl_commands.specs.Branches.{branch_of}
+use Rattle.tcl_commands.specs.IfWords.{with_branch, choices_from, choices_of}
 use Rattle.tcl_commands.specs.Shapes.{IsBranch, IsOtherwise, AreFurtherBranches, AreChoices, IsIf}
 
 -- a text that isn't another

@@ -1,7 +1,7 @@
 -- What the words of `if` are is one thing, which is what is cut of them.
 use Rattle.std.proofs.Common.{◌≡◌, refl, sym, ℕ, List, Option, Some, None}
 use Rattle.tcl_text.specs.One.{One}
-use Rattle.tcl_commands.specs.Branches.{choices_of}
+use Rattle.tcl_commands.specs.IfWords.{choices_of}
 use Rattle.tcl_commands.specs.Shapes.{IsIf, IsIfOrNone}
 use Rattle.tcl_commands.specs.declared.branches.Choices.{Choices}
 use Rattle.tcl_commands.proofs.ChoicesCut.{choices_read, choices_cut}

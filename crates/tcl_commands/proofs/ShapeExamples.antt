@@ -1,7 +1,8 @@
 -- How words are cut, on words whose meaning a Tcl shell shows.
 use Rattle.std.proofs.Common.{◌≡◌, ℕ, List, [], ◌∷◌, Some, None, codes, refl}
 use Rattle.tcl_commands.specs.declared.branches.Choices.{Choices}
-use Rattle.tcl_commands.specs.Branches.{branch_of, choices_of}
+use Rattle.tcl_commands.specs.Branches.{branch_of}
+use Rattle.tcl_commands.specs.IfWords.{choices_of}
 use Rattle.tcl_commands.specs.Shapes.{IsIf}
 use Rattle.tcl_commands.proofs.ChoicesCut.{choices_read, choices_cut}
 

@@ -6,7 +6,7 @@ use Rattle.tcl_commands.specs.declared.branches.Choices.{Choices}
 use Rattle.tcl_commands.specs.declared.groups.Group.{Group}
 use Rattle.tcl_commands.specs.Ahead.{ahead, with_branches}
 use Rattle.tcl_commands.specs.Groups.{groups_from}
-use Rattle.tcl_commands.specs.Branches.{choices_from}
+use Rattle.tcl_commands.specs.IfWords.{choices_from}
 
 module _ {X : Type 0} where
   at_suc : (xs : List X) (i : ℕ) (d : X) → i < length xs → drop i xs ≡ get_or xs i d ∷ drop (suc i) xs

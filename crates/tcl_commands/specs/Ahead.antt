@@ -4,7 +4,8 @@ use Rattle.tcl_commands.specs.declared.branches.Branch.{Branch}
 use Rattle.tcl_commands.specs.declared.branches.Clause.{Clause}
 use Rattle.tcl_commands.specs.declared.branches.Choices.{Choices}
 use Rattle.tcl_commands.specs.declared.groups.Group.{Group}
-use Rattle.tcl_commands.specs.Branches.{choices_from, arms_from}
+use Rattle.tcl_commands.specs.Branches.{arms_from}
+use Rattle.tcl_commands.specs.IfWords.{choices_from}
 use Rattle.tcl_commands.specs.Groups.{groups_from}
 
 -- a list in front of what a reading gives

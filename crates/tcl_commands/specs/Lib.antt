@@ -7,6 +7,7 @@ pub mod Commands
 pub mod Done
 pub mod Edits
 pub mod Groups
+pub mod IfWords
 pub mod Links
 pub mod Parameters
 pub mod Refusals

@@ -1,6 +1,7 @@
 ghost use Rattle.std.specs.Prelude.{◌≡◌, ◌++◌, drop, IfOk};
 ghost use Rattle.tcl_commands.specs.Ahead.{Follows, FollowsArm};
-ghost use Rattle.tcl_commands.specs.Branches.{choices_of, choices_from, arms_of};
+ghost use Rattle.tcl_commands.specs.Branches.{arms_of};
+ghost use Rattle.tcl_commands.specs.IfWords.{choices_of, choices_from};
 
 use crate::listing::Listing;
 use std::alloc::{AllocError, Global};
@@ -81,7 +82,7 @@ fn next_clause(
 
 /// What `if` chooses from, by the words behind its name (if(n)); none where a condition or a body is missing in its place, also behind
 /// `else`, or words are left behind the last body. Conditions and bodies aren't read.
-#[tactic(auto, unfolding(crate::specs::Branches::choices_of))]
+#[tactic(auto, unfolding(crate::specs::IfWords::choices_of))]
 pub fn if_choices(alloc: Global, words: &[Text]) -> Result<Option<Choices>, AllocError>
     ensures { IfOk result (λ choices. choices ≡ choices_of words.now) }
 {

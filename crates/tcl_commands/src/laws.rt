@@ -1,7 +1,8 @@
 //! Laws of the shapes, as contracts of functions that do nothing.
 
 ghost use Rattle.std.specs.Prelude.{◌≡◌, ℕ, ◌*◌, true, List, [], ◌∷◌, ◌++◌, length, drop, nat_lt, Some, Ok, Err};
-ghost use Rattle.tcl_commands.specs.Branches.{choices_of, arms_of};
+ghost use Rattle.tcl_commands.specs.Branches.{arms_of};
+ghost use Rattle.tcl_commands.specs.IfWords.{choices_of};
 ghost use Rattle.tcl_commands.specs.Groups.{groups_of, has_body, has_more};
 ghost use Rattle.tcl_commands.specs.Shapes.{IsIf, arm_words, AreGroups, AreFaulty, after_iterations};
 ghost use Rattle.tcl_commands.specs.declared.branches.Branch.{Branch};

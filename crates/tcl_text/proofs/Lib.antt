@@ -31,6 +31,7 @@ pub mod KeptItems
 pub mod KeptGrown
 pub mod SortLemmas
 pub mod ListReading
+pub mod MarkLemmas
 pub mod ListFaultsTold
 pub mod ListFaultsMeant
 pub mod RoundTrip

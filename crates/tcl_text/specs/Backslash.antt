@@ -1,5 +1,5 @@
 -- Meaning. What a backslash stands for, and a text as the marks that it is written in.
-use Rattle.std.specs.Prelude.{ℕ, zero, suc, ◌+◌, ◌*◌, Bool, ◌&&◌, ◌||◌, ◌==◌, nat_lt, nat_le, if◌then◌else◌, List, [], ◌∷◌, take, encode_utf8}
+use Rattle.std.specs.Prelude.{ℕ, zero, suc, ◌+◌, ◌*◌, Bool, ◌&&◌, ◌||◌, ◌==◌, nat_lt, nat_le, if◌then◌else◌, List, [], ◌∷◌, drop, take, encode_utf8}
 use Rattle.std.specs.Char.{digit_value}
 use Rattle.tcl_text.specs.Bytes.{alert, backspace, tab, line_feed, vertical_tab, form_feed, carriage_return, space, quote, digit_zero, digit_seven, capital_u, backslash_sign, letter_a, letter_b, letter_f, letter_n, letter_r, letter_t, letter_u, letter_v, letter_x, open_brace, close_brace}
 use Rattle.tcl_text.specs.declared.splitting.ByteKind.{ByteKind}
@@ -90,7 +90,13 @@ byte_mark b = record { kind = kind_of b; written = b ∷ []; meant = b ∷ [] }
 abbrev pub escape_mark : List ℕ → Mark
 escape_mark behind = record { kind = Backslash; written = backslash_sign ∷ take (escape behind).length behind; meant = (escape behind).meaning }
 
--- the marks of a text from the left, past the bytes that an earlier mark took
+-- The first mark of a text, and then those of what is left: a backslash with all that it takes, or a byte by itself. How what is left is marked is given.
+abbrev pub marked : (List ℕ → List Mark) → List ℕ → List Mark
+marked rest [] = []
+marked rest (b ∷ bs) = if b == backslash_sign then escape_mark bs ∷ rest (drop (escape bs).length bs) else byte_mark b ∷ rest bs
+
+-- The marks of a text from the left, past the bytes that an earlier mark took. The number is there for the recursion alone: law `texts_are_marked` has the
+-- equation without it.
 abbrev pub marks_past : ℕ → List ℕ → List Mark
 marks_past taken [] = []
 marks_past (suc taken) (b ∷ bs) = marks_past taken bs

@@ -2,11 +2,18 @@
 ghost use Rattle.std.specs.Prelude.{◌≡◌, ◌↔◌, ℕ, ℤ, List, Bool, Some, Ok, Err, Result, FitsSigned};
 ghost use Rattle.std.specs.Fmt.{signed_decimal};
 ghost use Rattle.std.specs.Int.{w64};
+ghost use Rattle.tcl_text.specs.Backslash.{Mark, marked, marks};
 ghost use Rattle.tcl_text.specs.ListForm.{Joins};
 ghost use Rattle.tcl_text.specs.ListFaults.{IsListFault};
 ghost use Rattle.tcl_text.specs.Readings.{IsBoolean, IsInteger, IsList, boolean_of, integer_of, list_form, list_of};
 ghost use Rattle.tcl_text.specs.Splitting.{Splits};
 ghost use Rattle.tcl_text.specs.declared.fault.ListFault.{ListFault};
+
+/// The marks of a text are its first one and those of what is left, and no other function is so.
+pub fn texts_are_marked()
+    ensures equation { (text : List ℕ) → marks text ≡ marked marks text }
+    ensures only { (other : List ℕ → List Mark) → ((text : List ℕ) → other text ≡ marked other text) → (text : List ℕ) → other text ≡ marks text }
+{}
 
 /// At most one integer belongs to a text.
 pub fn one_integer()

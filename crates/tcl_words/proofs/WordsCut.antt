@@ -3,7 +3,7 @@ use Rattle.std.proofs.Common.{◌≡◌, ℕ, ◌+◌, ◌<◌, ◌⊎◌, inl, 
 use Rattle.tcl_words.specs.Classes.{begins_expansion}
 use Rattle.tcl_words.specs.Grammar.{ends_word}
 use Rattle.tcl_words.specs.Spans.{word_of}
-use Rattle.tcl_words.specs.Grammar.{ArePieces, TextEnding, leaves, fails, begins, begins_bare, begins_mark, IsInnerOf, IsOwnWord, IsFaultyOwn, IsMark, IsWord, IsFaultyWord}
+use Rattle.tcl_words.specs.Grammar.{ArePieces, TextEnding, leaves, fails, begins, begins_bare, begins_expanded, IsInnerOf, IsOwnWord, IsFaultyOwn, HasExpansion, IsWord, IsFaultyWord}
 use Rattle.tcl_words.specs.Grammar.IsOwnWord.{bare_word, quoted_word, braced_word}
 use Rattle.tcl_words.specs.Grammar.IsFaultyOwn.{faulty_bare, faulty_quoted, followed_quoted, unclosed_braced, followed_braced}
 use Rattle.tcl_words.specs.declared.kind.Mode.TheVariants.{Bare, Quotes}
@@ -124,7 +124,7 @@ rest_shorter inside text [] rest e h k = let f : false ≡ true = sym h ∙ ap (
 rest_shorter inside text (b ∷ own) rest e h k = omega (arith, ap length e, length-append own rest)
 
 marked_cut : (room : ℕ) (inside expand : Bool) (at : ℕ) (mark text whole : List ℕ) → whole ≡ mark ++ text → ends_word inside whole ≡ false →
-    ((t : List ℕ) → t ≡ text → IsMark inside expand mark t) → OwnCut room inside text → WordCut room inside at whole
+    ((t : List ℕ) → t ≡ text → HasExpansion inside expand mark t) → OwnCut room inside text → WordCut room inside at whole
 marked_cut room inside expand at mark text whole e open_word marked (inl found) =
     let cut : whole ≡ (mark ++ found.own) ++ found.rest = e ∙ ap (λ t. mark ++ t) found.cut ∙ sym (append_assoc mark found.own found.rest) in
     inl (record {
@@ -150,7 +150,7 @@ marked_cut room inside expand at mark text whole e open_word marked (inr (fault,
     inr (fault, record { expand = expand; mark = mark; own = text; cut = e; marked = marked text refl; is = h })
 
 -- `{*}` before a character that doesn't end the word
-mark_found : (inside : Bool) (text : List ℕ) → begins_mark inside text ≡ true → (rest : List ℕ) × (text ≡ 123 ∷ 42 ∷ 125 ∷ rest) × (ends_word inside rest ≡ false)
+mark_found : (inside : Bool) (text : List ℕ) → begins_expanded inside text ≡ true → (rest : List ℕ) × (text ≡ 123 ∷ 42 ∷ 125 ∷ rest) × (ends_word inside rest ≡ false)
 mark_found inside [] h = cc
 mark_found inside (b ∷ text) h =
     let two = both (b == 123) (begins_expansion text && not (ends_word inside (drop 2 text))) h in
@@ -176,9 +176,9 @@ mark_found inside (b ∷ text) h =
         (behind, ap (λ x. x ∷ d ∷ behind) (sym e) ∙ ap (λ x. 42 ∷ x ∷ behind) (sym f), not_false (ends_word flag behind) one.1)
 
 pub word_cut : (room : ℕ) (inside : Bool) (at : ℕ) (text : List ℕ) → InnerCuts room → ends_word inside text ≡ false → WordCut room inside at text
-word_cut room inside at text inner h = elim (decided (begins_mark inside text)) [
+word_cut room inside at text inner h = elim (decided (begins_expanded inside text)) [
   | inl e ↦ (
       let some = mark_found inside text e in
       marked_cut room inside true at (123 ∷ 42 ∷ 125 ∷ []) some.0 text some.1 h (λ t f. (refl, ap (ends_word inside) f ∙ some.2)) (own_cut room inside some.0 inner some.2))
-  | inr e ↦ marked_cut room inside false at [] text text refl h (λ t f. (refl, ap (begins_mark inside) f ∙ e)) (own_cut room inside text inner h)
+  | inr e ↦ marked_cut room inside false at [] text text refl h (λ t f. (refl, ap (begins_expanded inside) f ∙ e)) (own_cut room inside text inner h)
 ]

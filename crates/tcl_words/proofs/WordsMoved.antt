@@ -2,7 +2,7 @@
 use Rattle.std.proofs.Common.{◌≡◌, ℕ, ◌+◌, ◌<◌, Bool, true, false, not, ◌==◌, ◌&&◌, List, [], ◌∷◌, ◌++◌, length, drop, refl, sym, ap, subst, ◌∙◌, append_assoc, length-append, arith}
 use Rattle.tcl_words.specs.Classes.{class_of, begins_expansion}
 use Rattle.tcl_words.specs.Spans.{word_of}
-use Rattle.tcl_words.specs.Grammar.{TextEnding, leaves, begins, begins_bare, begins_mark, ends_word, ArePieces, IsBraced, IsInnerOf, IsOwnWord, IsMark, IsWord}
+use Rattle.tcl_words.specs.Grammar.{TextEnding, leaves, begins, begins_bare, begins_expanded, ends_word, ArePieces, IsBraced, IsInnerOf, IsOwnWord, HasExpansion, IsWord}
 use Rattle.tcl_words.specs.Grammar.ArePieces.{stop, unended, byte, backslash, dollar, variable, braced_name, unclosed_name, element, faulty_index, bracket, faulty_script}
 use Rattle.tcl_words.specs.Grammar.IsOwnWord.{bare_word, quoted_word, braced_word}
 use Rattle.tcl_words.specs.declared.kind.Mode.TheVariants.{Bare, Quotes}
@@ -72,30 +72,30 @@ own_moved {rest} (braced_word own are) ends other h = braced_word own are
 other_first : (b c : ℕ) (t : Bool) → (b == c) ≡ false → ((b == c) && t) ≡ false
 other_first b c t h = rw h refl
 
-bare_unmarked : (text : List ℕ) → begins_bare false text ≡ true → begins_mark false text ≡ false
+bare_unmarked : (text : List ℕ) → begins_bare false text ≡ true → begins_expanded false text ≡ false
 bare_unmarked [] h = refl
 bare_unmarked (b ∷ text) h =
     let two = both (not (ends_word false (b ∷ text))) (not (b == 123) && not (b == 34)) h in
     let more = both (not (b == 123)) (not (b == 34)) two.1 in
     other_first b 123 (begins_expansion text && not (ends_word false (drop 2 text))) (not_true (b == 123) more.0)
 
-braced_unmarked : (own value rest : List ℕ) → IsBraced own value → ends_word false rest ≡ true → begins_mark false (123 ∷ (own ++ 125 ∷ rest)) ≡ false
+braced_unmarked : (own value rest : List ℕ) → IsBraced own value → ends_word false rest ≡ true → begins_expanded false (123 ∷ (own ++ 125 ∷ rest)) ≡ false
 braced_unmarked own value rest are ends = go (begins_expansion (own ++ 125 ∷ rest)) refl
   where
-    star : own ≡ 42 ∷ [] → begins_mark false (123 ∷ (own ++ 125 ∷ rest)) ≡ false
-    star e = ap (λ t. begins_mark false (123 ∷ (t ++ 125 ∷ rest))) e ∙ ap not ends
+    star : own ≡ 42 ∷ [] → begins_expanded false (123 ∷ (own ++ 125 ∷ rest)) ≡ false
+    star e = ap (λ t. begins_expanded false (123 ∷ (t ++ 125 ∷ rest))) e ∙ ap not ends
 
-    go : (t : Bool) → begins_expansion (own ++ 125 ∷ rest) ≡ t → begins_mark false (123 ∷ (own ++ 125 ∷ rest)) ≡ false
+    go : (t : Bool) → begins_expansion (own ++ 125 ∷ rest) ≡ t → begins_expanded false (123 ∷ (own ++ 125 ∷ rest)) ≡ false
     go true e = let two = two_bytes (own ++ 125 ∷ rest) e in star (star_only own value rest two.0 are two.1).0
     go false e = ap (λ t. t && not (ends_word false (drop 2 (own ++ 125 ∷ rest)))) e
 
-own_unmarked : {rest own : List ℕ} {form : WordForm} {pieces : List Piece} → IsOwnWord (IsInnerOf 200) false rest own form pieces → ends_word false rest ≡ true → begins_mark false (own ++ rest) ≡ false
+own_unmarked : {rest own : List ℕ} {form : WordForm} {pieces : List Piece} → IsOwnWord (IsInnerOf 200) false rest own form pieces → ends_word false rest ≡ true → begins_expanded false (own ++ rest) ≡ false
 own_unmarked {rest} (bare_word {own} first are) ends = bare_unmarked (own ++ rest) first
 own_unmarked {rest} (quoted_word own are) ends = refl
-own_unmarked {rest} (braced_word own {value} are) ends = ap (λ t. begins_mark false (123 ∷ t)) (append_assoc own (125 ∷ []) rest) ∙ braced_unmarked own value rest are ends
+own_unmarked {rest} (braced_word own {value} are) ends = ap (λ t. begins_expanded false (123 ∷ t)) (append_assoc own (125 ∷ []) rest) ∙ braced_unmarked own value rest are ends
 
-mark_moved : (expand : Bool) (mark own rest other : List ℕ) (form : WordForm) (pieces : List Piece) → IsMark false expand mark (own ++ rest) → IsOwnWord (IsInnerOf 200) false other own form pieces → ends_word false other ≡ true →
-    IsMark false expand mark (own ++ other)
+mark_moved : (expand : Bool) (mark own rest other : List ℕ) (form : WordForm) (pieces : List Piece) → HasExpansion false expand mark (own ++ rest) → IsOwnWord (IsInnerOf 200) false other own form pieces → ends_word false other ≡ true →
+    HasExpansion false expand mark (own ++ other)
 mark_moved true mark own rest other form pieces (e, h) is ends = (e, own_open (IsInnerOf 200) false is)
 mark_moved false mark own rest other form pieces (e, h) is ends = (e, own_unmarked is ends)
 

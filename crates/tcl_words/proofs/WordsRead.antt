@@ -11,7 +11,7 @@ use Rattle.tcl_words.specs.Changes.Change.{bytes as put_bytes, text_ends, word_e
 use Rattle.tcl_words.specs.Moves.{ByteMove, move_of, on, lone, in_expanded, in_between, change_before, word_over}
 use Rattle.tcl_words.specs.Moves.{at_fault as fails_with}
 use Rattle.tcl_words.specs.Reading.{Level, rest_of, past, within, end_or_fault}
-use Rattle.tcl_words.specs.Grammar.{TextEnding, fails, Inner, IsInnerOf, begins_bare, begins_mark, IsBraced, IsUnclosed, IsOwnWord, IsFaultyOwn, IsMark, IsWord, IsFaultyWord}
+use Rattle.tcl_words.specs.Grammar.{TextEnding, fails, Inner, IsInnerOf, begins_bare, begins_expanded, IsBraced, IsUnclosed, IsOwnWord, IsFaultyOwn, HasExpansion, IsWord, IsFaultyWord}
 use Rattle.tcl_words.specs.Grammar.IsOwnWord.{bare_word, quoted_word, braced_word}
 use Rattle.tcl_words.specs.Grammar.IsFaultyOwn.{faulty_bare, faulty_quoted, followed_quoted, unclosed_braced, followed_braced}
 use Rattle.tcl_words.specs.declared.kind.Mode.TheVariants.{Bare, Quotes}
@@ -116,7 +116,7 @@ quote_begins level false text at = refl
 -- no `{*}` is at the front of a word's own text where there was none before it
 abbrev pub IsOwnFront : Bool → Bool → List ℕ → Type 0
 IsOwnFront inside true text = Unit {0}
-IsOwnFront inside false text = begins_mark inside text ≡ false
+IsOwnFront inside false text = begins_expanded inside text ≡ false
 
 -- no `{*}` is at the front, or the word was begun by one
 abbrev IsBegun : Bool → List ℕ → Type 0
@@ -324,12 +324,12 @@ unclosed_begun inside false text h front = go (begins_expansion text) refl
 pub true_false : true ≡ false → ⊥
 true_false e = cc
 
-star_mark : (inside : Bool) (rest : List ℕ) → begins_mark inside (123 ∷ 42 ∷ 125 ∷ rest) ≡ not (ends_word inside rest)
+star_mark : (inside : Bool) (rest : List ℕ) → begins_expanded inside (123 ∷ 42 ∷ 125 ∷ rest) ≡ not (ends_word inside rest)
 star_mark inside rest = refl
 
-star_followed : (inside : Bool) (own rest : List ℕ) → own ≡ 42 ∷ [] → ends_word inside rest ≡ false → begins_mark inside (123 ∷ (own ++ 125 ∷ rest)) ≡ false → ⊥
+star_followed : (inside : Bool) (own rest : List ℕ) → own ≡ 42 ∷ [] → ends_word inside rest ≡ false → begins_expanded inside (123 ∷ (own ++ 125 ∷ rest)) ≡ false → ⊥
 star_followed inside own rest is other front =
-    true_false (ap not (sym other) ∙ sym (star_mark inside rest) ∙ ap (λ t. begins_mark inside (123 ∷ (t ++ 125 ∷ rest))) (sym is) ∙ front)
+    true_false (ap not (sym other) ∙ sym (star_mark inside rest) ∙ ap (λ t. begins_expanded inside (123 ∷ (t ++ 125 ∷ rest))) (sym is) ∙ front)
 
 followed_begun : (inside expand : Bool) (own value rest : List ℕ) → IsBraced own value → ends_word inside rest ≡ false → IsOwnFront inside expand (123 ∷ (own ++ 125 ∷ rest)) → IsBegun expand (own ++ 125 ∷ rest)
 followed_begun inside true own value rest are other front = tt
@@ -376,7 +376,7 @@ word_read inside room inner rest at text word is = marked is.expand is.marked is
     given : Bool → ℕ → ℕ → Read
     given expand start end = put (word_front (word_of is.form expand start is.pieces end)) (rest_of rest level 0 Between end)
 
-    marked : (expand : Bool) → IsMark inside expand is.mark (is.own ++ rest) → word ≡ word_of is.form expand at is.pieces (at + length text) →
+    marked : (expand : Bool) → HasExpansion inside expand is.mark (is.own ++ rest) → word ≡ word_of is.form expand at is.pieces (at + length text) →
         rest_of (text ++ rest) level 0 Between at ≡ put (word_front word) (rest_of rest level 0 Between (at + length text))
     marked false (e, none) same =
         let text_is : text ≡ is.own = is.cut ∙ ap (λ t. t ++ is.own) e in
@@ -403,7 +403,7 @@ faulty_word_read inside room inner at text fault is = marked is.expand is.marked
     level : Level
     level = record { inside = inside; room = room }
 
-    marked : (expand : Bool) → IsMark inside expand is.mark is.own → rest_of text level 0 Between at ≡ Err fault
+    marked : (expand : Bool) → HasExpansion inside expand is.mark is.own → rest_of text level 0 Between at ≡ Err fault
     marked false (e, none) = ap (λ t. rest_of t level 0 Between at) (is.cut ∙ ap (λ t. t ++ is.own) e) ∙ own_fault inside room inner is.is false at none
     marked true (e, other) =
         ap (λ t. rest_of t level 0 Between at) (is.cut ∙ ap (λ t. t ++ is.own) e) ∙ mark_read level is.own at ∙ own_fault inside room inner is.is true (at + 3) tt
@@ -428,7 +428,7 @@ brace_open : (inside : Bool) (text : List ℕ) → ends_word inside (123 ∷ tex
 unfolding class_of
 brace_open inside text = refl
 
-marked_open : (inside expand : Bool) (mark own rest text : List ℕ) → text ≡ mark ++ own → IsMark inside expand mark (own ++ rest) → ends_word inside (own ++ rest) ≡ false → ends_word inside (text ++ rest) ≡ false
+marked_open : (inside expand : Bool) (mark own rest text : List ℕ) → text ≡ mark ++ own → HasExpansion inside expand mark (own ++ rest) → ends_word inside (own ++ rest) ≡ false → ends_word inside (text ++ rest) ≡ false
 marked_open inside false mark own rest text cut (e, none) h = ap (λ t. ends_word inside (t ++ rest)) (cut ∙ ap (λ t. t ++ own) e) ∙ h
 marked_open inside true mark own rest text cut (e, other) h = ap (λ t. ends_word inside (t ++ rest)) (cut ∙ ap (λ t. t ++ own) e) ∙ brace_open inside (42 ∷ 125 ∷ (own ++ rest))
 
@@ -438,4 +438,4 @@ word_open IsInner inside rest at text word is = marked_open inside is.expand is.
 pub faulty_word_open : (IsInner : Inner → List ℕ → TextEnding → Type 0) (inside : Bool) (text : List ℕ) (fault : ParseFault) → IsFaultyWord IsInner inside text fault → ends_word inside text ≡ false
 faulty_word_open IsInner inside text fault is =
     ap (ends_word inside) (sym (append-nil text))
-    ∙ marked_open inside is.expand is.mark is.own [] text is.cut (subst (IsMark inside is.expand is.mark) (sym (append-nil is.own)) is.marked) (ap (ends_word inside) (append-nil is.own) ∙ faulty_open IsInner inside is.is)
+    ∙ marked_open inside is.expand is.mark is.own [] text is.cut (subst (HasExpansion inside is.expand is.mark) (sym (append-nil is.own)) is.marked) (ap (ends_word inside) (append-nil is.own) ∙ faulty_open IsInner inside is.is)

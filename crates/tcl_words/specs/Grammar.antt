@@ -1,6 +1,7 @@
 -- Meaning. The grammar of scripts, as a relation between a text and its commands. It cuts texts into gaps, commands, words and
 -- pieces, and says nothing of how a text is read. What stands at the front of a text is read with how that goes on: with
 -- a text that is left behind it, or with the fault of the text.
+-- Commands and words tell where they stand (`at`, spans): only notes for people ask for that, and what scripts do doesn't hang on it.
 use Rattle.std.specs.Prelude.{ℕ, zero, suc, ◌+◌, ◌≡◌, ◌≢◌, ◌≤◌, ◌⊎◌, Bool, true, false, not, ◌&&◌, ◌||◌, ◌==◌, nat_eq, List, [], ◌∷◌, ◌++◌, length, drop, Result, Ok, Err}
 use Rattle.std.specs.List.{starts_with}
 use Rattle.std.specs.Str.{IsUtf8}
@@ -64,9 +65,9 @@ ends_word inside [] = true
 ends_word inside (b ∷ text) = class_ends inside (class_of b) text
 
 -- a `{*}` stands at the front, before a character that doesn't end the word
-abbrev pub begins_mark : Bool → List ℕ → Bool
-begins_mark inside [] = false
-begins_mark inside (b ∷ text) = b == open_brace && (begins_expansion text && not (ends_word inside (drop 2 text)))
+abbrev pub begins_expanded : Bool → List ℕ → Bool
+begins_expanded inside [] = false
+begins_expanded inside (b ∷ text) = b == open_brace && (begins_expansion text && not (ends_word inside (drop 2 text)))
 
 -- letters, digits and `_`
 abbrev pub AreNameBytes : List ℕ → Type 0
@@ -99,7 +100,7 @@ unended_fault Bare = MissingBracket
 unended_fault Quotes = MissingQuote
 unended_fault Parens = MissingParen
 
--- what stands for itself where a body goes on
+-- what stands for itself where a body goes on (no byte alone is a Continuation: see class_of)
 abbrev pub is_plain : Kind → Bool
 is_plain Dollar = false
 is_plain OpenBracket = false
@@ -213,9 +214,9 @@ pub data IsFaultyOwn (IsInner : Inner → List ℕ → TextEnding → Type 0) (i
       IsFaultyOwn IsInner inside (open_brace ∷ (own ++ close_brace ∷ rest)) ExtraAfterBrace
 
 -- what stands before a word's own text: `{*}`, or nothing
-abbrev pub IsMark : Bool → Bool → List ℕ → List ℕ → Type 0
-IsMark inside false mark text = (mark ≡ []) × (begins_mark inside text ≡ false)
-IsMark inside true mark text = (mark ≡ open_brace ∷ star ∷ close_brace ∷ []) × (ends_word inside text ≡ false)
+abbrev pub HasExpansion : Bool → Bool → List ℕ → List ℕ → Type 0
+HasExpansion inside false mark text = (mark ≡ []) × (begins_expanded inside text ≡ false)
+HasExpansion inside true mark text = (mark ≡ open_brace ∷ star ∷ close_brace ∷ []) × (ends_word inside text ≡ false)
 
 -- A word at this position, where `rest` follows it.
 pub record IsWord (IsInner : Inner → List ℕ → TextEnding → Type 0) (inside : Bool) (rest : List ℕ) (at : ℕ) (text : List ℕ) (word : Word) : Type 0 where
@@ -225,7 +226,7 @@ pub record IsWord (IsInner : Inner → List ℕ → TextEnding → Type 0) (insi
   pub form : WordForm
   pub pieces : List Piece
   pub cut : text ≡ mark ++ own
-  pub marked : IsMark inside expand mark (own ++ rest)
+  pub marked : HasExpansion inside expand mark (own ++ rest)
   pub is : IsOwnWord IsInner inside rest own form pieces
   pub ends : ends_word inside rest ≡ true
   pub same : word ≡ word_of form expand at pieces (at + length text)
@@ -236,7 +237,7 @@ pub record IsFaultyWord (IsInner : Inner → List ℕ → TextEnding → Type 0)
   pub mark : List ℕ
   pub own : List ℕ
   pub cut : text ≡ mark ++ own
-  pub marked : IsMark inside expand mark own
+  pub marked : HasExpansion inside expand mark own
   pub is : IsFaultyOwn IsInner inside own fault
 
 -- a newline or `;`

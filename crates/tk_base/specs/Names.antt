@@ -1,5 +1,5 @@
 -- Meaning. Keys by their names and by the characters that they type. A key is its place in the list of names.
-use Rattle.std.specs.Prelude.{ℕ, ◌+◌, ◌-◌, ◌==◌, ◌&&◌, Bool, nat_le, if◌then◌else◌, List, [], ◌∷◌, ◌++◌, Option, Some, None, position, slice_get, unwrap_or, codes}
+use Rattle.std.specs.Prelude.{◌≡◌, map, option_and_then, ℕ, ◌+◌, ◌-◌, ◌==◌, ◌&&◌, Bool, nat_le, if◌then◌else◌, List, [], ◌∷◌, ◌++◌, Option, Some, None, position, slice_get, unwrap_or, codes}
 use Rattle.std.specs.List.{list_any, slice_split}
 use Rattle.std.specs.Str.{bytes_eq}
 
@@ -66,3 +66,11 @@ caps_lock = 127
 -- the keys that are held while others are pressed, or change what they mean
 abbrev pub is_modifier : ℕ → Bool
 is_modifier key = list_any (λ other. other == key) (shift_left ∷ shift_right ∷ control_left ∷ control_right ∷ alt_left ∷ alt_right ∷ caps_lock ∷ [])
+
+-- the keys of these names type these characters, one after another
+abbrev pub AreTyped : List ℕ → List ℕ → Type 0
+AreTyped names characters = map (λ name. option_and_then character_of (key_named name)) (names_in names) ≡ map (λ character. Some character) characters
+
+-- and the keys of these type nothing
+abbrev pub AreSilent : List ℕ → Type 0
+AreSilent names = map (λ name. option_and_then character_of (key_named name)) (names_in names) ≡ map (λ name. None) (names_in names)

@@ -6,8 +6,8 @@ use Rattle.tcl_text.specs.Answers.{Answer}
 use Rattle.tk_bind_commands.specs.Bind.{bind_words}
 use Rattle.tk_bind_commands.specs.Bindtags.{bindtags_words}
 use Rattle.tk_bind_commands.specs.Event.{event_words}
-use Rattle.tk_inputs.specs.Deliver.{Arrivals}
 use Rattle.tk_inputs.specs.Focus as focus
+use Rattle.tk_panel.specs.Deliver.{arrivals_in}
 use Rattle.tk_panel.specs.Panel.{Panel}
 use Rattle.tk_commands.specs.declared.binding.BindingCommand.{BindingCommand}
 use Rattle.tk_commands.specs.declared.binding.BindingCommand.TheVariants as command
@@ -34,9 +34,6 @@ unfoldable pub event_told : List (List ℕ) → Panel → Told
 event_told [] panel = answered (virtual_told [] panel)
 event_told (name ∷ words) panel =
     if bytes_eq name (codes "generate") then generate_told words panel else answered (virtual_told (name ∷ words) panel)
-
-abbrev pub arrivals_in : Panel → Arrivals
-arrivals_in panel = record { input = panel.input; queue = panel.queue }
 
 abbrev pub with_focus : Panel → focus.Told → Panel × Answer
 with_focus panel there = (record panel { input = there.arrivals.input; queue = there.arrivals.queue }, there.answer)

@@ -7,7 +7,7 @@ use Rattle.tk_class_commands.specs.declared.outcome.ClassOutcome.TheVariants as 
 use Rattle.tk_class_commands.specs.Outcomes as outcomes
 use Rattle.tk_class_commands.specs.Table.{ClassCommand}
 use Rattle.tk_panel.specs.Panel.{Panel}
-use Rattle.tk_commands.specs.Binding.{arrivals_in}
+use Rattle.tk_panel.specs.Deliver.{arrivals_in}
 use Rattle.tk_commands.specs.declared.outcome.CommandOutcome.TheVariants.{Acts}
 use Rattle.tk_commands.specs.Dispatch.{selection_told}
 use Rattle.tk_commands.specs.Outcomes.{Done, Told, told, with_store}

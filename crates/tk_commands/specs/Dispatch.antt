@@ -7,7 +7,7 @@ use Rattle.tk_generate.specs.declared.generate.Generated.{Generated}
 use Rattle.tk_generate.specs.declared.given.When.{When}
 use Rattle.tk_generate.specs.declared.given.When.TheVariants.{Now, Tail, Head}
 use Rattle.tk_generate.specs.Generate.{generate_words}
-use Rattle.tk_panel.specs.Panel.{Panel}
+use Rattle.tk_panel.specs.Panel.{Panel, with_queue}
 use Rattle.tk_commands.specs.declared.outcome.Begun.TheVariants.{Dispatches}
 use Rattle.tk_commands.specs.declared.outcome.CommandOutcome.TheVariants.{Acts, Begins}
 use Rattle.tk_commands.specs.Outcomes.{Told, told}
@@ -18,9 +18,6 @@ use Rattle.tk_tree.specs.Own.{window_at}
 -- an event comes at once
 abbrev pub dispatched : Event → Panel → Told
 dispatched event panel = told panel (Begins (Dispatches event))
-
-abbrev pub with_queue : List Event → Panel → Panel
-with_queue queue panel = record panel { queue = queue }
 
 -- a generated event comes at once, or waits behind all others or before them
 abbrev pub generated_by_when : When → Event → Panel → Told

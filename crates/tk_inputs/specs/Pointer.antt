@@ -1,8 +1,8 @@
 -- Meaning. What the windows of an application are told of the pointer. A window is given by its way: the numbers of its ancestors from the main
 -- window on, and then its own. The way of a window that is gone, and that of no window, is empty.
 use Rattle.std.specs.Prelude.{ℕ, Bool, true, false, not, ◌==◌, if◌then◌else◌, List, [], ◌∷◌, ◌++◌, filter, Option, Some, None}
-use Rattle.std.specs.Option.{option_eq}
 use Rattle.tk_route.specs.Buttons.{is_any_held, with_pressed, with_released}
+use Rattle.tk_route.specs.Routes.{is_same}
 use Rattle.tk_inputs.specs.declared.pointer_event.PointerEvent.{PointerEvent}
 use Rattle.tk_inputs.specs.declared.pointer_event.PointerKind.{PointerKind}
 use Rattle.tk_inputs.specs.declared.pointer_event.PointerKind.TheVariants.{Crossing, Motion, Press, Release}
@@ -24,9 +24,6 @@ abbrev pub end_of : List ℕ → Option ℕ
 end_of [] = None
 end_of (window ∷ []) = Some window
 end_of (window ∷ inner ∷ way) = end_of (inner ∷ way)
-
-abbrev pub is_same : Option ℕ → Option ℕ → Bool
-is_same = option_eq (λ a b. a == b)
 
 -- the event of a window, if there is one
 abbrev pub to : PointerKind → Option ℕ → List PointerEvent

@@ -19,7 +19,7 @@ widget_at number widgets = lookup (nat_eq number) widgets
 abbrev pub with_widget : ℕ → Widget → OwnWidgets → OwnWidgets
 with_widget number widget widgets = insert_entry nat_eq widgets number widget
 
--- the widget of the window with a number gone
+-- the widget of the window with a number gone; the others keep their order
 abbrev pub without_widget : ℕ → OwnWidgets → OwnWidgets
 without_widget number widgets = remove_entry (nat_eq number) widgets
 

@@ -2,7 +2,8 @@
 use Rattle.std.specs.Prelude.{ℕ, zero, suc, ◌+◌, Bool, false, nat_le, if◌then◌else◌, List, [], ◌∷◌, length, take}
 use Rattle.unicode_width.specs.Width.{str_width}
 
--- the columns of a character as a text of its own
+-- The columns of a character as a text of its own: those that the crate unicode_width gives it where East Asian characters of ambiguous width take one (`false`).
+-- A printing ASCII character takes one.
 unfoldable pub columns : ℕ → ℕ
 columns c = str_width false (c ∷ [])
 

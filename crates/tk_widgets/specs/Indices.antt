@@ -1,6 +1,7 @@
 -- Meaning. Indices of listbox(n): an integer, `active` or `end`. They are cut to what there is.
 use Rattle.std.specs.Prelude.{ℕ, ◌+◌, ◌-◌, min, ℤ, pos, negsuc, if◌then◌else◌, List, Option, Some, option_map, codes}
 use Rattle.std.specs.Str.{bytes_eq}
+use Rattle.tcl_text.specs.Indices.{from_zero}
 use Rattle.tcl_text.specs.Readings.{integer_of}
 use Rattle.tk_widgets.specs.declared.item_index.ItemIndex.{ItemIndex}
 use Rattle.tk_widgets.specs.declared.item_index.ItemIndex.TheVariants.{Number, Active, End}
@@ -13,11 +14,6 @@ index_in word =
     if bytes_eq word (codes "active") then Some Active
     else (if bytes_eq word (codes "end") then Some End
     else number_in word)
-
--- the number, or 0 where it is below
-abbrev pub from_zero : ℤ → ℕ
-from_zero (pos n) = n
-from_zero (negsuc n) = 0
 
 -- how many items stand up to the one of a number and with it
 abbrev pub through_number : ℤ → ℕ

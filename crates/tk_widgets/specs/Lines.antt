@@ -8,7 +8,7 @@ use Rattle.unicode_width.specs.Width.{str_width}
 abbrev pub lines_in : List ℕ → List (List ℕ)
 lines_in text = slice_split (λ b. b == 10) text
 
--- the columns of a line, and of the widest of some lines
+-- the columns of a line, by unicode_width as in Columns, and of the widest of some lines
 unfoldable pub columns_in : List ℕ → ℕ
 columns_in line = str_width false (chars line)
 

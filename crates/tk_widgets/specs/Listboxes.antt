@@ -1,7 +1,7 @@
 -- Meaning. A listbox of listbox(n): its items, and what its commands make of them. Places count from 0.
 use Rattle.std.specs.Prelude.{ℕ, ◌+◌, ◌-◌, ◌/◌, min, max, ℤ, Bool, not, ◌&&◌, ◌||◌, ◌==◌, nat_le, nat_lt, if◌then◌else◌, List, [], ◌∷◌, ◌++◌, length, map, take, drop}
 use Rattle.std.specs.List.{enumerate_from, list_any}
-use Rattle.tk_widgets.specs.Indices.{from_zero}
+use Rattle.tcl_text.specs.Indices.{from_zero}
 use Rattle.tk_widgets.specs.Items.{new_items}
 use Rattle.tk_widgets.specs.declared.items.Item.{Item}
 use Rattle.tk_widgets.specs.declared.choice.Choice.{Choice}

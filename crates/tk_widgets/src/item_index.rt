@@ -1,5 +1,6 @@
 //! Places in the list of a listbox.
 ghost use Rattle.std.specs.Prelude.{◌≡◌};
+ghost use Rattle.tcl_text.specs.Indices as list_indices;
 ghost use Rattle.tk_widgets.specs.Indices as spec;
 
 use tcl_text::Text;
@@ -73,7 +74,7 @@ fn number_in(word: &Text) -> Option<ItemIndex>
 
 /// The number, or 0 where it is below.
 fn from_zero(number: i64) -> usize
-    ensures { result ≡ spec.from_zero number }
+    ensures { result ≡ list_indices.from_zero number }
 {
     usize::try_from(number).unwrap_or(0)
 }

@@ -1,6 +1,6 @@
 ghost use Rattle.std.specs.Prelude.{◌≡◌, ◌≢◌, ◌<◌, ◌≤◌, ◌++◌, [], min, length, IfOk, IfErr, OnOk, OnErr, drop, take, ◌+◌, ◌^◌};
 ghost use Rattle.tcl_text.specs.Readings.{list_form};
-ghost use Rattle.tk_widgets.specs.Indices.{from_zero};
+ghost use Rattle.tcl_text.specs.Indices.{from_zero};
 ghost use Rattle.tk_widgets.specs.Items.{texts, new_items, selected_from};
 ghost use Rattle.tk_widgets.specs.Kept.{IsLengthened, IsFull};
 ghost use Rattle.tk_widgets.specs.Listboxes.{part, kept, active_inserted, active_deleted, inserted, deleted, activated, selected_by, selected, has_selected, row_at};

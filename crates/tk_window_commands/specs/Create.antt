@@ -37,6 +37,7 @@ refusal_text path BadName = codes "window name starts with an upper-case letter:
 refusal_text path Dying = codes "can't create window: parent has been destroyed"
 refusal_text path Exists = codes "window name " ++ (quoted (name_in path) ++ codes " already exists in parent")
 refusal_text path Full = codes "limit reached: windows"
+-- (no definition makes this one: want of memory is no part of what is meant)
 refusal_text path NoMemory = codes "out of memory"
 
 -- the main window isn't made by a command

@@ -1,4 +1,4 @@
-use Rattle.tcl_commands.specs.Branches.{choices_of}
+use Rattle.tcl_commands.specs.IfWords.{choices_of}
 use Rattle.tcl_commands.proofs.ShapeLemmas.{none_from}
 use Rattle.tcl_commands.proofs.branches.if_choices.Goals as goal
 

@@ -1,7 +1,7 @@
 use Rattle.std.proofs.Common.{◌≡◌, drop}
 use Rattle.tcl_commands.specs.declared.branches.Clause.TheVariants.{AtTest}
 use Rattle.tcl_commands.specs.Ahead.{with_branches}
-use Rattle.tcl_commands.specs.Branches.{choices_from}
+use Rattle.tcl_commands.specs.IfWords.{choices_from}
 use Rattle.tcl_commands.proofs.branches.if_choices.Given as goal
 
 -- with what the words that are left offer, there is all

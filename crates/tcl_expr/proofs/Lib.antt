@@ -18,3 +18,4 @@ pub mod PieceTrees
 pub mod GrammarRead
 pub mod GrammarCut
 pub mod GrammarLaws
+pub mod SearchLemmas

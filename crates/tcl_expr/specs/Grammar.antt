@@ -38,12 +38,13 @@ abbrev pub past_blanks : List ℕ → List ℕ
 past_blanks [] = []
 past_blanks (b ∷ behind) = if blank_mark (mark_of b) behind then past_blanks behind else b ∷ behind
 
--- What stands behind an operand: the end of the text, an operator and what is left behind it, or neither.
+-- What stands behind an operand: the end of the text; an operator, `?`, `:` or `)`, and what is left behind that; or neither.
 pub data After : Type 0 where
   at_end : After
   linked : Link → List ℕ → After
   nothing : After
 
+-- (the first byte of so many is off already)
 abbrev pub after_link : List ℕ → Option (Link × ℕ) → After
 after_link behind (Some found) = linked found.0 (drop (found.1 - 1) behind)
 after_link behind None = nothing

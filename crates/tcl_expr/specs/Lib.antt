@@ -12,6 +12,7 @@ pub mod Parsing
 pub mod Reading
 pub mod Resuming
 pub mod Run
+pub mod Searches
 pub mod Standing
 pub mod Steps
 pub mod Straight

@@ -1,5 +1,5 @@
 use crate::step::Step;
-use crate::straight::is_straight;
+use crate::straight::{Numbers, integer_by, is_straight};
 use std::alloc::{AllocError, Global};
 use std::marker::Model;
 use std::rc::Rc;
@@ -31,9 +31,12 @@ impl Model for Expr {
 }
 
 impl Expr {
-    ghost use Rattle.std.specs.Prelude.{◌≡◌, Ok, IfOk, IsOk};
+    ghost use Rattle.std.specs.Prelude.{◌≡◌, [], Ok, IfOk, IfSome, IsOk};
+    ghost use Rattle.tcl_expr.specs.declared.state.State.TheVariants.{Ready};
     ghost use Rattle.tcl_expr.specs.Grammar.{IsExpression};
     ghost use Rattle.tcl_expr.specs.Reading.{compiled, tree_of};
+    ghost use Rattle.tcl_expr.specs.Resuming.{evaluation_at};
+    ghost use Rattle.tcl_expr.specs.Straight.{ComesTo};
 
     /// An expression of this text, of which these are the steps.
     pub(crate) fn new(alloc: Global, text: Text, steps: Vec<Step>) -> Result<Expr, AllocError>
@@ -70,6 +73,18 @@ impl Expr {
     /// Whether straight code has all the steps.
     pub(crate) fn is_straight(&self) -> bool {
         self.parsed.is_straight
+    }
+
+    /// The integer that its evaluation comes to, where that needs nothing but integers and variables that are some. It says nothing of a sum that 64
+    /// bits don't hold, of a division by 0, or where many operands wait. It takes no memory, and no evaluation is begun.
+    pub fn integer<N: Numbers>(&self, numbers: &N) -> Option<i64>
+        ensures { IfSome result (ComesTo (N.number numbers.now) (evaluation_at 0 (compiled self.now) [] Ready)) }
+    {
+        if self.is_straight() {
+            integer_by(numbers, self.steps())
+        } else {
+            None
+        }
     }
 
     /// The same expression, shared. It takes no memory; it is refused only where the count of its copies is full.

@@ -17,6 +17,7 @@ mod operators;
 mod parse;
 mod parser;
 mod reader;
+mod searches;
 mod state;
 mod step;
 mod straight;

@@ -9,9 +9,7 @@ use crate::fault::EvalFault;
 use crate::operands::Operands;
 use crate::operators::{BinaryOperator, UnaryOperator};
 use crate::step::Step;
-use crate::value::{
-    Value, binary_value, into_text, need_truth, number_in, truth_value, unary_value,
-};
+use crate::value::{Value, into_text, need_truth, number_in, truth_value, unary_value};
 use std::alloc::Global;
 use tcl_text::Text;
 
@@ -101,7 +99,8 @@ fn binary(alloc: Global, stack: &mut Operands, operator: BinaryOperator) -> Resu
 {
     let right = stack.pop();
     let left = stack.pop();
-    stack.push(binary_value(alloc, operator, left, right)?)?;
+    let value = stack.binary_value(alloc, operator, left, right)?;
+    stack.push(value)?;
     Ok(Turn::Skip(0))
 }
 
@@ -159,6 +158,7 @@ fn perform(alloc: Global, stack: &mut Operands, step: &Step) -> Result<Turn, Eva
         }
         Step::Element(array) => element(alloc, stack, array),
         Step::Command(script) => {
+            stack.forget_searches();
             let script = script.copy()?;
             Ok(Turn::Stop(Ask::Command(script)))
         }

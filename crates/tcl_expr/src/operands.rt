@@ -1,4 +1,7 @@
-use crate::value::Value;
+use crate::fault::EvalFault;
+use crate::operators::BinaryOperator;
+use crate::searches::Searches;
+use crate::value::{Value, binary_value};
 use std::alloc::{AllocError, Global};
 use std::marker::Model;
 
@@ -6,6 +9,7 @@ use std::marker::Model;
 #[derive(Drop)]
 pub struct Operands {
     values: Vec<Value>,
+    searches: Searches,
 }
 
 impl Model for Operands {
@@ -19,7 +23,9 @@ impl Model for Operands {
 
 impl Operands {
     ghost use Rattle.std.specs.Prelude.{◌≡◌, true, [], ◌∷◌, OnOk};
+    ghost use Rattle.tcl_expr.specs.Faults.{IsEvaluatedAs};
     ghost use Rattle.tcl_expr.specs.Steps.{top_of, without_top};
+    ghost use Rattle.tcl_expr.specs.Values as values;
 
     /// No values. It takes no memory.
     pub fn new(alloc: Global) -> Operands
@@ -27,6 +33,7 @@ impl Operands {
     {
         Operands {
             values: Vec::new(alloc),
+            searches: Searches::new(),
         }
     }
 
@@ -51,5 +58,26 @@ impl Operands {
         ensures below { self.new ≡ without_top self.old }
     {
         self.values.pop().unwrap_or(Value::Number(0))
+    }
+
+    /// What an operator makes of the values at its sides.
+    pub fn binary_value(
+        &mut self,
+        alloc: Global,
+        operator: BinaryOperator,
+        left: Value,
+        right: Value,
+    ) -> Result<Value, EvalFault>
+        ensures value { IsEvaluatedAs result (values.binary_value operator left right) }
+        ensures same { self.new ≡ self.old }
+    {
+        binary_value(alloc, &mut self.searches, operator, left, right)
+    }
+
+    /// Keeps nothing of the list that was searched last: a script may search others, and as deep as scripts nest.
+    pub fn forget_searches(&mut self)
+        ensures { self.new ≡ self.old }
+    {
+        self.searches = Searches::new();
     }
 }

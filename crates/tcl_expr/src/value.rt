@@ -11,6 +11,7 @@ use crate::fault::EvalFault;
 use crate::operators::{
     ArithmeticOperator, BinaryOperator, Comparison, NumberOperator, TextOperator, UnaryOperator,
 };
+use crate::searches::Searches;
 use std::alloc::{AllocError, Global};
 use std::cmp::Ordering;
 use tcl_text::Text;
@@ -160,30 +161,21 @@ pub fn holds(comparison: Comparison, order: Ordering) -> bool
     }
 }
 
-/// Whether one of the items is the text.
-fn is_among(text: &Text, items: &[Text]) -> bool
-    ensures { result ≡ values.is_among text.now items.now }
-{
-    items.iter().any(|item| item.as_str() == text.as_str())
-}
-
-/// Whether an item of the list that the second text is equals the first.
-fn is_in(alloc: Global, item: &Text, list: &Text) -> Result<bool, EvalFault>
-    ensures { IsEvaluatedAs result (values.is_in item.now list.now) }
-{
-    let items = list.split_list(alloc)?;
-    Ok(is_among(item, items.as_slice()))
-}
-
-fn test(alloc: Global, operator: TextOperator, left: &Text, right: &Text) -> Result<bool, EvalFault>
+fn test(
+    alloc: Global,
+    searches: &mut Searches,
+    operator: TextOperator,
+    left: &Text,
+    right: &Text,
+) -> Result<bool, EvalFault>
     ensures { IsEvaluatedAs result (values.test operator left.now right.now) }
 {
     match operator {
         TextOperator::Same => Ok(left.as_str() == right.as_str()),
         TextOperator::Different => Ok(left.as_str() != right.as_str()),
-        TextOperator::In => is_in(alloc, left, right),
+        TextOperator::In => searches.is_in(alloc, left, right),
         TextOperator::NotIn => {
-            let found = is_in(alloc, left, right)?;
+            let found = searches.is_in(alloc, left, right)?;
             Ok(!found)
         }
     }
@@ -230,6 +222,7 @@ fn arithmetic_value(
 /// What an operator makes of the values at its sides.
 pub fn binary_value(
     alloc: Global,
+    searches: &mut Searches,
     operator: BinaryOperator,
     left: Value,
     right: Value,
@@ -245,7 +238,7 @@ pub fn binary_value(
         BinaryOperator::Text(operator) => {
             let left = into_text(alloc, left)?;
             let right = into_text(alloc, right)?;
-            let truth = test(alloc, operator, &left, &right)?;
+            let truth = test(alloc, searches, operator, &left, &right)?;
             Ok(truth_value(truth))
         }
     }

@@ -58,7 +58,7 @@ rename_call _ store context = keeps_all store context (misused usage.Rename)
 abbrev pub in_procedure : Context → ProcedureCalled → Called
 in_procedure context called = record { store = called.store; context = record context { levels = called.levels }; call = Plans called.plan }
 
--- a command of this crate
+-- a command of Tcl, those on texts and lists aside
 abbrev pub builtin_call : BuiltinName → List (List ℕ) → Store → Context → Called
 builtin_call builtin.Break words store context = keeps_all store context (break_plan words)
 builtin_call builtin.Catch words store context = keeps_all store context (catch_plan words)

@@ -1,6 +1,7 @@
 ghost use Rattle.std.specs.Prelude.{◌≡◌, ◌∷◌, [], IfOk};
 ghost use Rattle.tcl_text.specs.Readings.{list_of};
-ghost use Rattle.tcl_commands.specs.Branches.{choices_of, arms_of};
+ghost use Rattle.tcl_commands.specs.Branches.{arms_of};
+ghost use Rattle.tcl_commands.specs.IfWords.{choices_of};
 ghost use Rattle.tcl_control.specs.Choices.{if_plan, ends_open, is_dash, matches, takes, body_of, arm_for, by_arms, by_pairs, switched, switched_past, switch_plan, no_body};
 ghost use Rattle.tcl_control.specs.Commands.{bad_option_plan};
 

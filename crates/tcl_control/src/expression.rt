@@ -1,10 +1,10 @@
-ghost use Rattle.std.specs.Prelude.{◌≡◌, IfOk};
+ghost use Rattle.std.specs.Prelude.{◌≡◌, IfOk, IfSome};
 ghost use Rattle.tcl_control.specs.Expressions.{truth_of_text};
-ghost use Rattle.tcl_control.specs.ExpressionForms.{evaluation_begins};
+ghost use Rattle.tcl_control.specs.ExpressionForms.{IsIntegerBy, evaluation_begins};
 
 use std::alloc::{AllocError, Global};
 use std::marker::Model;
-use tcl_expr::{Eval, Expr, ExprFault, parse_expr};
+use tcl_expr::{Eval, Expr, ExprFault, Numbers, parse_expr};
 use tcl_table::CommandTable;
 use tcl_text::Text;
 use tcl_words::ParseFault;
@@ -88,6 +88,16 @@ impl Expression {
         }
     }
 
+    /// The integer that its value is, where straight code says so (`Expr::integer`). It takes no memory.
+    pub fn integer<N: Numbers>(&self, numbers: &N) -> Option<i64>
+        ensures { IfSome result (IsIntegerBy (N.number numbers.now) self.now) }
+    {
+        match &self.form {
+            ExpressionForm::Read(expr) => integer_of(expr, numbers),
+            ExpressionForm::Faulty(..) => None,
+        }
+    }
+
     /// Its evaluation from the beginning, or the text of its fault (4 to 11).
     #[tactic(auto, unfolding(crate::specs::ExpressionForms::evaluation_begins))]
     pub fn begin(&self, alloc: Global) -> Result<Result<Eval, Text>, AllocError>
@@ -102,6 +112,14 @@ impl Expression {
             ExpressionForm::Faulty(_, told) => Ok(Err(told.copy()?)),
         }
     }
+}
+
+/// The integer that the value of an expression is, where straight code says so (`Expr::integer`). It takes no memory.
+pub fn integer_of<N: Numbers>(expr: &Expr, numbers: &N) -> Option<i64>
+    ensures { IfSome result (IsIntegerBy (N.number numbers.now) expr.now) }
+{
+    let _read = expr.text();
+    expr.integer(numbers)
 }
 
 /// The value of a condition of `if`, `while` or `for` as a boolean (expr(n)), or the text of the error that it is none (2).

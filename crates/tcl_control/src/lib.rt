@@ -17,6 +17,6 @@ mod variables;
 pub use code::{Code, ReturnCode, STRAY_BREAK, STRAY_CONTINUE};
 pub use context::Context;
 pub use control::{Call, End, call_command, caught};
-pub use expression::{Expression, truth};
+pub use expression::{Expression, integer_of, truth};
 pub use loops::{Loop, Looping, Test, Verdict, items_tested};
 pub use plan::Plan;

@@ -1,4 +1,4 @@
--- Meaning. What of an object that serves outside commands no script changes.
+-- Meaning, for the interpreter by itself: what scripts of an application do needs none of this. What of an object that serves outside commands no script changes.
 use Rattle.std.specs.Prelude.{◌≡◌, ℕ, List}
 use Rattle.tcl_vars.specs.Store.{Store}
 use Rattle.tcl_control.specs.declared.code.Code.{Code}

@@ -2,10 +2,8 @@
 use Rattle.std.specs.Prelude.{◌≡◌, ℕ, Bool, List, Ok, Err, ℤ}
 use Rattle.std.specs.Fmt.{signed_decimal}
 use Rattle.tcl_expr.specs.declared.state.State.TheVariants.{Ready}
-use Rattle.tcl_expr.specs.Resuming.{Resumption}
-use Rattle.tcl_expr.specs.Straight.{ComesTo}
 use Rattle.tcl_vars.specs.Store.{Store, number_in}
-use Rattle.tcl_control.specs.ExpressionForms.{evaluation_begins}
+use Rattle.tcl_control.specs.ExpressionForms.{IsIntegerBy, evaluation_begins}
 use Rattle.tcl_control.specs.Expressions.{truth_of_text}
 use Rattle.tcl_interp.specs.declared.openings.Opening.{Opening}
 use Rattle.tcl_interp.specs.declared.openings.Opening.TheVariants as opening
@@ -14,9 +12,9 @@ use Rattle.tcl_interp.specs.declared.openings.Condition.TheVariants as condition
 use Rattle.tcl_interp.specs.Moves.{expression_begins}
 use Rattle.tcl_interp.specs.Rests.{doing_of}
 
--- an expression of this text begins with an evaluation that comes to an integer
+-- an expression of this text begins with an evaluation that comes to an integer, where variables are those of a level
 abbrev pub IsInteger : Store → ℕ → List ℕ → ℤ → Type 0
-IsInteger store level text n = (evaluation : Resumption) × (evaluation_begins text ≡ Ok evaluation) × ComesTo (number_in store level) evaluation n
+IsInteger store level text n = IsIntegerBy (number_in store level) text n
 
 abbrev pub Opens : Store → ℕ → List ℕ → Opening → Type 0
 Opens store level text (opening.Integer n) = IsInteger store level text n

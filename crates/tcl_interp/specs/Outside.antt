@@ -1,4 +1,4 @@
--- Meaning. The outside commands: what an object that serves them answers, as two functions of what it shows, the store and the arguments.
+-- Meaning, for the interpreter by itself: what scripts of an application do needs none of this. The outside commands: what an object that serves them answers, as two functions of what it shows, the store and the arguments.
 use Rattle.std.specs.Prelude.{ℕ, List, ◌<◌}
 use Rattle.tcl_vars.specs.Store.{Store}
 use Rattle.tcl_control.specs.declared.code.Code.{Code}

@@ -61,11 +61,11 @@ fn open_expression(
     requires { level < length scopes.now }
     ensures { IfOk result (Opens scopes.now level expression.now) }
 {
+    if let Some(number) = expression.integer(&Seen { scopes, level }) {
+        return Ok(Opening::Integer(number));
+    }
     match expression.begin(alloc)? {
-        Ok(eval) => match straight_value(scopes, level, &eval) {
-            Some(number) => Ok(Opening::Integer(number)),
-            None => Ok(Opening::Evaluation(eval)),
-        },
+        Ok(eval) => Ok(Opening::Evaluation(eval)),
         Err(text) => Ok(Opening::Fault(text)),
     }
 }

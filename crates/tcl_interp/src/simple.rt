@@ -7,7 +7,6 @@ ghost use Rattle.tcl_vars.specs.Store.{Store};
 ghost use Rattle.tcl_table.specs.Names.{plain_name};
 ghost use Rattle.tcl_table.specs.Table.{command_of};
 ghost use Rattle.tcl_control.specs.declared.code.Code.TheVariants.{Normal};
-ghost use Rattle.tcl_control.specs.ExpressionForms.{evaluation_begins};
 ghost use Rattle.tcl_table.specs.Levels.{here};
 ghost use Rattle.tcl_control.specs.Variables.{answer_code, answer_text};
 ghost use Rattle.tcl_interp.specs.Finish.{Calls, ForCommand, GoesOn};
@@ -19,7 +18,7 @@ ghost use Rattle.tcl_text.specs.Limits.{most_bytes};
 
 use crate::machine::{Frame, Next, Now, ScriptPlace};
 use crate::moves::after_command;
-use crate::openings::straight_value;
+use crate::seen::Seen;
 use crate::steps::call;
 use crate::stopped::note_ended;
 use crate::tasks::Tasks;
@@ -28,8 +27,7 @@ use crate::words::{
 };
 use std::alloc::{AllocError, Global};
 use tcl_commands::call_variable_command;
-use tcl_control::{Code, Context, End};
-use tcl_expr::{Eval, Expr};
+use tcl_control::{Code, Context, End, integer_of};
 use tcl_table::{Builtin, Command, is_dotted, plain_name};
 use tcl_text::{Text, TextCommand, TextList};
 use tcl_vars::Scopes;
@@ -96,15 +94,6 @@ fn command_named<'a>(context: &'a Context, name: &Text) -> Option<&'a Command>
     context.commands.get(plain)
 }
 
-/// The evaluation of an expression from its beginning.
-#[tactic(auto, unfolding(tcl_control::specs::ExpressionForms::evaluation_begins))]
-fn begun(alloc: Global, expr: Expr) -> Eval
-    ensures { evaluation_begins expr ≡ Ok result }
-{
-    let _read = expr.text();
-    Eval::new(alloc, expr)
-}
-
 /// What `expr` makes of one argument, where it was read before and straight code says its value.
 fn computed(
     alloc: Global,
@@ -123,7 +112,7 @@ fn computed(
     let Some(expr) = context.commands.kept_expression(&text)? else {
         return Ok(None);
     };
-    match straight_value(scopes, level, &begun(alloc, expr)) {
+    match integer_of(&expr, &Seen { scopes, level }) {
         Some(number) => {
             let value = Text::from_integer(alloc, number)?;
             let _short = value.as_str();
@@ -529,7 +518,7 @@ pub fn run_plain<T: Tasks>(
     let mut place = from;
     let mut text = previous;
     let mut steps = 0;
-    'commands: while steps < most {
+    'commands: while steps < most && place.next < commands(&place.script).len() {
         let more = most - steps;
         let gone = run_one(
             alloc, tasks, scopes, context, frames, place, text, more, left,

@@ -6,7 +6,8 @@ use Rattle.tcl_vars.specs.Store.{Store}
 abbrev pub own_place : List ℕ → ℕ
 own_place levels = slice_index_or levels (length levels - 1) 0
 
--- the place of the frame whose variables are seen; the global one where outside commands have taken a frame away
+-- The place of the frame whose variables are seen: that of the last level, which is there in whatever an application has (law keeps_links of tk_app).
+-- Of a store that lacks it the definition says the global one.
 abbrev pub here : List ℕ → Store → ℕ
 here levels store = if nat_lt (own_place levels) (length store) then own_place levels else 0
 

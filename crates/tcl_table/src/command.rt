@@ -1,4 +1,4 @@
-ghost use Rattle.std.specs.Prelude.{◌≡◌, ◌≤◌, [], length, Err, IfOk, IfSome, IsOk, MatchResult, OnOk, OnErr};
+ghost use Rattle.std.specs.Prelude.{◌≡◌, ◌≤◌, [], length, Some, Err, IfOk, IfSome, IsOk, MatchResult, OnOk, OnErr};
 ghost use Rattle.std.specs.Option.{option_copied};
 ghost use Rattle.indexmap.specs.IndexMap.{values};
 ghost use Rattle.tcl_table.specs.Names.{is_dotted, plain_name};
@@ -15,6 +15,7 @@ use std::marker::Model;
 use tcl_commands::VariableCommand;
 use tcl_expr::Expr;
 use tcl_text::{Text, TextCommand};
+use tcl_vars::Hints;
 use tcl_words::{ParseFault, Script, parse};
 
 /// What a name calls.
@@ -51,6 +52,7 @@ pub fn is_dotted(name: &str) -> bool
 /// the commands alone: what is kept of a text is what that text says, whether or not it is kept, and notes are for people.
 pub struct CommandTable {
     entries: IndexMap<String, Command>,
+    hints: Hints,
     scripts: Vec<Option<Script>>,
     expressions: Vec<Option<Expr>>,
     /// Of how many bytes of source scripts and expressions were kept since nothing was.
@@ -78,6 +80,7 @@ impl CommandTable {
     {
         Ok(CommandTable {
             entries: IndexMap::new(alloc),
+            hints: Hints::new(),
             scripts: vacant_places(alloc)?,
             expressions: vacant_places(alloc)?,
             bytes_kept: 0,
@@ -87,11 +90,41 @@ impl CommandTable {
         })
     }
 
-    /// The command of a name, which is looked up as it is: `plain_name` drops a leading `::`.
+    /// The command of a name, which is looked up as it is: `plain_name` drops a leading `::`. Where it stood when it was looked up last is tried first.
     pub fn get(&self, name: &str) -> Option<&Command>
         ensures { option_copied result ≡ value_at self.now name.now }
     {
-        self.entries.get(name)
+        if let Some(command) = self.held_at(self.hints.place(name), name) {
+            return Some(command);
+        }
+        self.find(name)
+    }
+
+    /// The command of a name, if that stands at a place of the order.
+    fn held_at(&self, place: usize, name: &str) -> Option<&Command>
+        ensures { IfSome result (λ command. value_at self.now name.now ≡ Some command.now) }
+    {
+        if place < self.entries.len() {
+            let (held, command) = self.entries.get_index(place).unwrap();
+            if held.as_str() == name {
+                return Some(command);
+            }
+        }
+        None
+    }
+
+    /// The command of a name, which is looked up by hashing. Its place is hinted from then on.
+    fn find(&self, name: &str) -> Option<&Command>
+        ensures { option_copied result ≡ value_at self.now name.now }
+    {
+        match self.entries.get_index_of(name) {
+            Some(place) => {
+                self.hints.keep(name, place);
+                let (_, command) = self.entries.get_index(place).unwrap();
+                Some(command)
+            }
+            None => None,
+        }
     }
 
     /// Gives a name a command, in place of the one that it may have. The body of a procedure stays as it was read only while all such bodies come from
@@ -392,6 +425,7 @@ impl Drop for CommandTable {
     fn drop(self) {
         let CommandTable {
             entries: _,
+            hints: _,
             scripts: _,
             expressions: _,
             bytes_kept: _,

@@ -2,7 +2,7 @@
 use Rattle.std.proofs.Common.{◌≡◌, ℕ, zero, suc, ◌<◌, Bool, true, false, cond, List, [], ◌∷◌, take, Option, None, Some, Ok, bytes_eq, subst}
 use Rattle.tcl_vars.specs.declared.content.Content.{Content}
 use Rattle.tcl_vars.specs.declared.content.Content.TheVariants.{Scalar, Array, Link}
-use Rattle.tcl_vars.specs.Sound.{IsBelow, AllBelow, FramesDescend, LinksDescend}
+use Rattle.tcl_vars.specs.Links.{IsBelow, AllBelow, FramesDescend, LinksDescend}
 use Rattle.tcl_vars.specs.Store.{Store, Frame, frame_at, content_with, link_of}
 use Rattle.tcl_vars.specs.Table.{value_at, with_value, without}
 

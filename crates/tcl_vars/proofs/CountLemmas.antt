@@ -4,7 +4,8 @@ use Rattle.std.proofs.lemmas.List.Sums.{sum_by_more, sum_by-take-le, sum_by_push
 use Rattle.std.proofs.Math.Seq.{take-append_seam}
 use Rattle.std.proofs.lemmas.Option.{get_or_from_slice_get}
 use Rattle.tcl_vars.specs.declared.content.Content.{Content}
-use Rattle.tcl_vars.specs.Sound.{IsSound, FramesDescend}
+use Rattle.tcl_vars.specs.Sound.{IsSound}
+use Rattle.tcl_vars.specs.Links.{FramesDescend}
 use Rattle.tcl_vars.specs.Store.{Store, Frame, content_count, frame_count, variable_count}
 use Rattle.tcl_vars.proofs.BelowLemmas.{FramesDescend-take}
 

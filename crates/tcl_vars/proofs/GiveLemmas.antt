@@ -2,7 +2,8 @@
 use Rattle.std.proofs.Common.{◌≡◌, ℕ, ◌+◌, ◌-◌, ◌<◌, ◌≤◌, List, None, Some, length, set, sym, arith, length-set}
 use Rattle.tcl_vars.specs.declared.content.Content.{Content}
 use Rattle.tcl_vars.specs.declared.content.Content.TheVariants.{Scalar, Array, Link}
-use Rattle.tcl_vars.specs.Sound.{AllBelow, IsSound}
+use Rattle.tcl_vars.specs.Sound.{IsSound}
+use Rattle.tcl_vars.specs.Links.{AllBelow}
 use Rattle.tcl_vars.specs.Store.{Store, Frame, frame_at, content_count, frame_count, variable_count}
 use Rattle.tcl_vars.specs.Table.{value_at, with_value, weight_of}
 use Rattle.tcl_vars.proofs.StoreLemmas.{variable_count-set, FramesDescend-set}

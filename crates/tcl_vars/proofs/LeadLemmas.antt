@@ -5,7 +5,7 @@ use Rattle.std.proofs.lemmas.List.{get_or-set_other}
 use Rattle.tcl_vars.specs.declared.content.Content.TheVariants.{Link}
 use Rattle.tcl_text.specs.declared.fault.LinkFault.TheVariants as links
 use Rattle.tcl_vars.specs.Name.{Place, element_of, place_of_parts, place_in_frame, place_of}
-use Rattle.tcl_vars.specs.Sound.{LinksDescend}
+use Rattle.tcl_vars.specs.Links.{LinksDescend}
 use Rattle.tcl_vars.specs.Store.{Store, frame_at, content_at, with_content, link_of, indexed, led_by, led, end_of, place_in, text_of, text_at, variable_in, is_plain_name, holds_value, variable_place, within_variables, with_link}
 use Rattle.tcl_vars.specs.Table.{value_at, with_value}
 use Rattle.tcl_vars.proofs.LinkLemmas.{led_enough, next_below, place_of-level}

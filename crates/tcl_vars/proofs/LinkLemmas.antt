@@ -2,7 +2,7 @@
 use Rattle.std.proofs.Common.{◌≡◌, ℕ, zero, suc, ◌<◌, ◌≤◌, Bool, true, false, List, Option, None, Some, option_and_then, if◌then◌else◌, is_some, drop, nat_eq, codes, refl, sym, ap, subst, ◌∙◌, arith}
 use Rattle.std.specs.List.{starts_with}
 use Rattle.tcl_vars.specs.Name.{Place, element_of, place_of_parts, place_in_frame, place_of}
-use Rattle.tcl_vars.specs.Sound.{LinksDescend}
+use Rattle.tcl_vars.specs.Links.{LinksDescend}
 use Rattle.tcl_vars.specs.Store.{Store, content_at, link_of, indexed, led_by, led}
 
 place_in_frame-level : (level : ℕ) (name : List ℕ) → (place_in_frame level name).frame ≡ level

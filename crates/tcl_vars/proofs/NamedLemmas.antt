@@ -1,7 +1,12 @@
 -- A map under text keys does what the list of its named entries says.
-use Rattle.std.proofs.Common.{◌≡◌, ℕ, zero, suc, ◌<◌, Bool, true, false, cond, List, [], ◌∷◌, length, get_or, Option, None, Some, is_some, slice_get, position, String, string_bytes, string_eq, bytes_eq, refl, sym, ap, ◌∙◌, arith}
+use Rattle.std.proofs.Common.{◌≡◌, ℕ, zero, suc, ◌<◌, Bool, true, false, cond, List, [], ◌∷◌, length, get_or, Option, None, Some, is_some, slice_get, position, String, string_bytes, string_eq, bytes_eq, refl, sym, ap, subst, ◌∙◌, arith}
 use Rattle.std.proofs.lemmas.List.Quantifiers.{position-Some}
-use Rattle.std.specs.Map.{keys_of, lookup, remove_entry}
+use Rattle.std.specs.List.{IsDistinct}
+use Rattle.std.specs.Map.{keys_of, values_of, lookup, remove_entry}
+use Rattle.std_alloc.specs.String.{string_eq_equiv}
+use Rattle.std_collections.proofs.HashLookup.{IsFirst, lookup-IsFirst}
+use Rattle.indexmap.proofs.MapLemmas.{index-first}
+use Rattle.indexmap.proofs.RemoveLemmas.{own_first}
 use Rattle.indexmap.specs.IndexMap.{insert_entry, set_value_at}
 use Rattle.tcl_vars.specs.Named.{named_entries}
 
@@ -67,3 +72,10 @@ slice_get-named_entries (f ∷ fs) (suc i) e at = slice_get-named_entries fs i e
 pub none_of : {V : Type 0} (o : Option V) → false ≡ is_some o → None ≡ o
 none_of None h = refl
 none_of (Some x) h = absurd (cc)
+
+-- a name that stands at a place is found there, since names are distinct
+pub stands_first : {Z V : Type 0} (name : List ℕ) (es : List (String Z × V)) (place : ℕ) (held : String Z) (value : V) → IsDistinct string_eq (keys_of es) → slice_get es place ≡ Some (held, value) → string_bytes held ≡ name
+    → (position (is_key name) (keys_of es) ≡ Some place) × (slice_get (values_of es) place ≡ lookup (is_key name) es)
+stands_first name es place held value unique at same =
+    let first : IsFirst (is_key name) es place = subst (λ n. IsFirst (is_key n) es place) same (own_first string_eq string_eq_equiv es place held value unique at) in
+    (index-first (is_key name) es place first, sym (lookup-IsFirst (is_key name) es place first))

@@ -2,7 +2,7 @@
 use Rattle.std.proofs.Common.{◌≡◌, ℕ, zero, suc, ◌<◌, List, Option, None, Some, option_and_then, refl, sym, ◌∙◌, arith}
 use Rattle.tcl_vars.specs.Links.{LinksLead, OnlyLinksLead, follows}
 use Rattle.tcl_vars.specs.Name.{Place, place_of}
-use Rattle.tcl_vars.specs.Sound.{LinksDescend}
+use Rattle.tcl_vars.specs.Links.{LinksDescend}
 use Rattle.tcl_vars.specs.Store.{Store, content_at, end_of, indexed, led_by, link_of}
 use Rattle.tcl_vars.proofs.LinkLemmas.{and_then_same, led-here, led-link, led-nowhere, next_below}
 

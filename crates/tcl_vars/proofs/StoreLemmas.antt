@@ -9,7 +9,8 @@ use Rattle.std.proofs.lemmas.List.Sums.{sum_by-set}
 use Rattle.tcl_text.specs.declared.fault.SetFault.{SetFault}
 use Rattle.tcl_vars.specs.Name.{Place}
 use Rattle.tcl_vars.specs.Put.{PutsText, Sets}
-use Rattle.tcl_vars.specs.Sound.{AllBelow, FramesDescend, IsSound}
+use Rattle.tcl_vars.specs.Sound.{IsSound}
+use Rattle.tcl_vars.specs.Links.{AllBelow, FramesDescend}
 use Rattle.tcl_vars.specs.Store.{Store, Frame, frame_at, content_at, link_of, frame_count, variable_count, within_variables, with_text_at, end_of}
 use Rattle.tcl_vars.proofs.BelowLemmas.{AllBelow-with_value, content_with-below}
 use Rattle.tcl_vars.proofs.LinkLemmas.{led-here}

@@ -5,7 +5,8 @@ use Rattle.tcl_vars.specs.declared.content.Content.TheVariants.{Scalar, Array, L
 use Rattle.tcl_text.specs.declared.fault.UnsetFault.{UnsetFault}
 use Rattle.tcl_text.specs.declared.fault.UnsetFault.TheVariants.{NoElement}
 use Rattle.tcl_vars.specs.Name.{Place}
-use Rattle.tcl_vars.specs.Sound.{IsBelow, AllBelow, IsSound}
+use Rattle.tcl_vars.specs.Sound.{IsSound}
+use Rattle.tcl_vars.specs.Links.{IsBelow, AllBelow}
 use Rattle.tcl_vars.specs.Store.{Store, Frame, frame_at, content_at, content_count, frame_count, variable_count, content_without, frame_with_rest, without_text_at, end_of, is_there, link_of}
 use Rattle.tcl_vars.specs.Table.{value_at, with_value, without, weight_of}
 use Rattle.tcl_vars.specs.Unset.{UnsetsWhole, UnsetsElement, UnsetsText, Unsets}

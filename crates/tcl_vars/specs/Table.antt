@@ -17,7 +17,7 @@ module _ {V : Type 0} where
   abbrev pub with_value : Table V → List ℕ → V → Table V
   with_value table name value = insert_entry bytes_eq table name value
 
-  -- the table without a name
+  -- the table without a name; the others keep their order
   abbrev pub without : Table V → List ℕ → Table V
   without table name = remove_entry (bytes_eq name) table
 

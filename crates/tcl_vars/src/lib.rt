@@ -4,6 +4,7 @@
 mod arrays;
 mod content;
 mod frame;
+mod hints;
 pub mod laws;
 mod name;
 mod scopes;
@@ -11,6 +12,7 @@ mod table;
 mod texts;
 
 pub use content::Content;
+pub use hints::Hints;
 pub use name::element_of;
 pub use scopes::Scopes;
 pub use table::Table;

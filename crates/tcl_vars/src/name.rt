@@ -1,4 +1,4 @@
-ghost use Rattle.std.specs.Prelude.{◌≡◌, ◌≤◌, Some, is_some, option_map, IfOk, IfSome};
+ghost use Rattle.std.specs.Prelude.{◌≡◌, ◌≤◌, ℕ, true, Some, is_some, option_map, IfOk, IfSome};
 ghost use Rattle.std.specs.Option.{option_copied};
 ghost use Rattle.tcl_vars.specs.Name.{element_of, place_in_frame, place_of};
 ghost use Rattle.tcl_vars.specs.Short.{IsShort, IsShortPlace};
@@ -63,8 +63,35 @@ fn place_in_frame<'a>(frame: usize, name: &'a str) -> Place<'a>
     }
 }
 
+/// Whether a name begins with no colon and ends with no bracket, as most do: it means a variable of the frame that it is used in.
+#[inline(always)]
+fn is_bare(name: &[u8]) -> bool
+    ensures { result ≡ true → (frame : ℕ) → place_of frame name.now ≡ variable_place frame name.now }
+{
+    if name.is_empty() {
+        return false;
+    }
+    let first = name[0];
+    let last = name[name.len() - 1];
+    first != b':' && last != b')'
+}
+
 /// Where a name points that is used in a frame: a leading `::` means the global frame.
+#[inline(always)]
 pub(crate) fn place_of<'a>(frame: usize, name: &'a str) -> Place<'a>
+    requires { IsShort name.now }
+    ensures place { shown result ≡ place_of frame name.now }
+    ensures short { IsShortPlace (shown result) }
+{
+    if is_bare(name.as_bytes()) {
+        variable_place(frame, name)
+    } else {
+        marked_place(frame, name)
+    }
+}
+
+/// The same, where the name may have marks.
+fn marked_place<'a>(frame: usize, name: &'a str) -> Place<'a>
     requires { IsShort name.now }
     ensures place { shown result ≡ place_of frame name.now }
     ensures short { IsShortPlace (shown result) }
@@ -104,6 +131,7 @@ pub(crate) fn is_plain(name: &str) -> bool
 }
 
 /// Where a name points that is used in a frame.
+#[inline(always)]
 pub(crate) fn place_of_text<'a>(frame: usize, name: &'a Text) -> Place<'a>
     ensures place { shown result ≡ place_of frame name.now }
     ensures short { IsShortPlace (shown result) }

@@ -6,7 +6,7 @@ ghost use Rattle.tcl_vars.specs.Changing.{ChangesHere, ChangesThere, KeepsHere};
 ghost use Rattle.tcl_vars.specs.Put.{Sets, SetsThere};
 ghost use Rattle.tcl_vars.specs.Short.{IsShortPlace};
 ghost use Rattle.tcl_vars.specs.Shown.{shown};
-ghost use Rattle.tcl_vars.specs.Sound.{IsBelow};
+ghost use Rattle.tcl_vars.specs.Links.{IsBelow};
 ghost use Rattle.tcl_vars.specs.Table.{weight_of};
 ghost use Rattle.tcl_vars.specs.Unset.{IsGone, Unsets, UnsetsThere};
 ghost use Rattle.tcl_vars.specs.Store.{content_at, link_of, end_of, text_at, variable_in, number_in, element_in, with_variable, with_element, without_variable, without_element, content_count, variable_count, with_content, with_link, with_array, has_variable, is_element_in, elements_in, pairs_of};
@@ -421,8 +421,23 @@ impl Scopes {
         }
     }
 
-    // The text to which a place leads.
+    // The text to which a place leads, most often its own.
     fn read(&self, place: Place<'_>) -> Result<&Text, ReadFault>
+        requires level { place.frame < length self.now }
+        requires short { IsShortPlace (shown place) }
+        ensures { MatchResult result
+            (λ text. text_at self.now (end_of self.now (shown place.entry)) ≡ Ok text.now)
+            (λ fault. text_at self.now (end_of self.now (shown place.entry)) ≡ Err fault) }
+    {
+        let held = self.content(place);
+        match link_of(held) {
+            None => text_of(held, place.element),
+            Some(_) => self.read_linked(place),
+        }
+    }
+
+    // The text to which the link of a place leads.
+    fn read_linked(&self, place: Place<'_>) -> Result<&Text, ReadFault>
         requires level { place.frame < length self.now }
         requires short { IsShortPlace (shown place) }
         ensures { MatchResult result
@@ -446,7 +461,7 @@ impl Scopes {
         let content = self.content_near(place, hint);
         match link_of(content) {
             None => text_of(content, place.element),
-            Some(_) => self.read(place),
+            Some(_) => self.read_linked(place),
         }
     }
 

@@ -1,4 +1,7 @@
-ghost use Rattle.std.specs.Prelude.{◌≡◌, ◌<◌, ◌^◌, [], length, slice_get, None, Some, IfSome, OnOk, OnErr};
+ghost use Rattle.std.specs.Prelude.{◌≡◌, ◌<◌, ◌^◌, [], length, position, slice_get, string_bytes, true, None, Some, IfSome, OnOk, OnErr};
+ghost use Rattle.std.specs.Map.{keys_of, lookup};
+ghost use Rattle.std.specs.Str.{bytes_eq};
+ghost use Rattle.indexmap.specs.IndexMap.{values};
 ghost use Rattle.std.specs.Option.{option_copied};
 ghost use Rattle.std.specs.Borrow.{LendsIf, sem};
 ghost use Rattle.std.specs.Option.{option_copied_mut};
@@ -6,15 +9,20 @@ ghost use Rattle.tcl_vars.specs.contracts.table.Table.{the_row};
 ghost use Rattle.tcl_vars.specs.Short.{IsShort};
 ghost use Rattle.tcl_vars.specs.Table.{value_at, with_value, without};
 
+use crate::hints::Hints;
 use indexmap::IndexMap;
 use std::alloc::{AllocError, Global};
 use std::cell::Cell;
 use std::marker::Model;
 
+/// How many names a table has at most of which places are hinted: among more, few are found where they stood.
+const MOST_HINTED: usize = 32;
+
 /// Values by name, in the order in which the names came.
 #[derive(Drop)]
 pub struct Table<V> {
     entries: IndexMap<String, V>,
+    hints: Hints,
     alloc: Global,
 }
 
@@ -31,6 +39,19 @@ impl<V> Model for Table<V> {
     ghost invariant = { λ t. ShortNames (named_entries t.entries.entries) };
 }
 
+/// Whether a name stands at a place of the order.
+fn stands_at<V>(entries: &IndexMap<String, V>, place: usize, name: &str) -> bool
+    ensures index { result ≡ true → position (λ k. bytes_eq name.now (string_bytes k)) (keys_of entries.now.entries) ≡ Some place }
+    ensures value { result ≡ true → slice_get (values entries.now) place ≡ lookup (λ k. bytes_eq name.now (string_bytes k)) entries.now.entries }
+{
+    if place < entries.len() {
+        let (held, _) = entries.get_index(place).unwrap();
+        held.as_str() == name
+    } else {
+        false
+    }
+}
+
 impl<V> Table<V> {
     /// No names. It takes no memory.
     pub(crate) fn new(alloc: Global) -> Table<V>
@@ -38,6 +59,7 @@ impl<V> Table<V> {
     {
         Table {
             entries: IndexMap::new(alloc),
+            hints: Hints::new(),
             alloc,
         }
     }
@@ -60,11 +82,30 @@ impl<V> Table<V> {
         (name.as_str(), value)
     }
 
-    /// The value at a name.
+    /// The value at a name, at the place where it stood when it was looked up last, or wherever it stands now.
     pub(crate) fn get(&self, name: &str) -> Option<&V>
         ensures { option_copied result ≡ value_at self.now name.now }
     {
-        self.entries.get(name)
+        if self.entries.len() <= MOST_HINTED
+            && let Some(value) = self.held_at(self.hints.place(name), name)
+        {
+            return Some(value);
+        }
+        self.find(name)
+    }
+
+    /// The value at a name, which is looked up by hashing. Its place is hinted from then on.
+    fn find(&self, name: &str) -> Option<&V>
+        ensures { option_copied result ≡ value_at self.now name.now }
+    {
+        match self.entries.get_index_of(name) {
+            Some(place) => {
+                self.hints.keep(name, place);
+                let (_, value) = self.entries.get_index(place).unwrap();
+                Some(value)
+            }
+            None => None,
+        }
     }
 
     /// The value at a name, if that stands at a place of the order.
@@ -119,8 +160,15 @@ impl<V: Drop> Table<V> {
         ensures* writes_back { sem 𝓛 (LendsIf (the_row V.row) V.row self.entry result (with_value self.old name.now) self.old) }
         ensures value { option_copied_mut result ≡ value_at self.old name.now }
     {
+        let hinted = self.hints.place(name);
+        if stands_at(&self.entries, hinted, name) {
+            return self.entries.get_index_mut(hinted);
+        }
         match self.entries.get_index_of(name) {
-            Some(index) => self.entries.get_index_mut(index),
+            Some(index) => {
+                self.hints.keep(name, index);
+                self.entries.get_index_mut(index)
+            }
             None => None,
         }
     }

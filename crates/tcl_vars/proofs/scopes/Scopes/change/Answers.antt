@@ -4,7 +4,7 @@ use Rattle.std.proofs.lemmas.Result.{err_from_is_err_and}
 use Rattle.tcl_vars.specs.Change.{edited_by}
 use Rattle.tcl_vars.specs.Store.{end_of, text_at, variable_in, with_text_at, with_variable}
 use Rattle.tcl_vars.specs.Shown.{shown}
-use Rattle.tcl_vars.specs.Sound.{FramesDescend}
+use Rattle.tcl_vars.specs.Links.{FramesDescend}
 use Rattle.tcl_vars.proofs.BelowLemmas.{LinksDescend-frames}
 use Rattle.tcl_vars.proofs.LawLemmas.{length-with_variable, text_at-with_text_at}
 use Rattle.tcl_vars.proofs.scopes.Scopes.change.Goals as goal

@@ -1,7 +1,7 @@
 -- The text is unset where the links end, which is no link.
 use Rattle.std.proofs.Common.{◌≡◌, Ok, None, ap, ◌∙◌, subst, le_refl}
 use Rattle.tcl_vars.specs.Shown.{shown}
-use Rattle.tcl_vars.specs.Sound.{FramesDescend}
+use Rattle.tcl_vars.specs.Links.{FramesDescend}
 use Rattle.tcl_vars.specs.Store.{content_at, link_of}
 use Rattle.tcl_vars.specs.Unset.{Unsets}
 use Rattle.tcl_vars.proofs.BelowLemmas.{LinksDescend-frames}

@@ -1,7 +1,7 @@
 -- The store stays sound.
 use Rattle.std.proofs.Common.{◌≡◌, ◌<◌, ◌+◌, length, [], sym, ap, ◌∙◌, subst, arith}
 use Rattle.std.proofs.lemmas.List.{get_or_default}
-use Rattle.tcl_vars.specs.Sound.{AllBelow}
+use Rattle.tcl_vars.specs.Links.{AllBelow}
 use Rattle.tcl_vars.specs.Store.{frame_at, frame_count}
 use Rattle.tcl_vars.proofs.BelowLemmas.{AllBelow-with_value}
 use Rattle.tcl_vars.proofs.GiveLemmas.{IsSound-grown}

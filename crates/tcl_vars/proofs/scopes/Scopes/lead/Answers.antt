@@ -1,7 +1,7 @@
 -- Each turn follows one link, to an earlier frame.
 use Rattle.std.proofs.Common.{◌≡◌, ◌<◌, ◌∙◌, sym, ap, subst, option_copied, arith}
 use Rattle.tcl_vars.specs.Shown.{shown}
-use Rattle.tcl_vars.specs.Sound.{FramesDescend}
+use Rattle.tcl_vars.specs.Links.{FramesDescend}
 use Rattle.tcl_vars.specs.Store.{link_of, indexed, led}
 use Rattle.tcl_vars.proofs.BelowLemmas.{LinksDescend-frames}
 use Rattle.tcl_vars.proofs.LinkLemmas.{led-link, led-nowhere, led-here}

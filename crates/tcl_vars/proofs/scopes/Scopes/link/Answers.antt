@@ -6,7 +6,7 @@ use Rattle.tcl_vars.specs.Store.{is_plain_name, holds_value, variable_place, wit
 use Rattle.tcl_vars.proofs.MadeLemmas.{with_link-bad, with_link-exists, with_link-ok, with_link-full}
 use Rattle.tcl_vars.proofs.LawLemmas.{length-with_link}
 use Rattle.std.proofs.Common.{subst}
-use Rattle.tcl_vars.specs.Sound.{FramesDescend}
+use Rattle.tcl_vars.specs.Links.{FramesDescend}
 use Rattle.tcl_vars.proofs.BelowLemmas.{LinksDescend-frames}
 use Rattle.tcl_vars.proofs.LeadLemmas.{variable_in-with_link}
 use Rattle.tcl_vars.proofs.scopes.Scopes.link.Goals as goal

@@ -2,7 +2,7 @@
 use Rattle.std.proofs.Common.{Err, Ok, rules, subst}
 use Rattle.std.proofs.lemmas.Result.{err_from_is_err_and}
 use Rattle.tcl_vars.specs.Shown.{shown}
-use Rattle.tcl_vars.specs.Sound.{FramesDescend}
+use Rattle.tcl_vars.specs.Links.{FramesDescend}
 use Rattle.tcl_vars.proofs.BelowLemmas.{LinksDescend-frames}
 use Rattle.tcl_vars.proofs.LawLemmas.{text_at-with_text_at}
 use Rattle.tcl_vars.proofs.StoreLemmas.{with_text_at-direct}

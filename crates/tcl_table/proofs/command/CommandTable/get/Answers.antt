@@ -1,9 +1,0 @@
--- A map's look-up is that of its named entries.
-use Rattle.std.proofs.Common.{◌∙◌, sym, ap}
-use Rattle.tcl_table.specs.Table.{value_at}
-use Rattle.tcl_vars.proofs.NamedLemmas.{lookup-named_entries}
-use Rattle.tcl_table.proofs.command.CommandTable.get.Goals as goal
-
-pub returns : goal.returns
-returns c =
-    c.get.ensures.value ∙ sym (lookup-named_entries c.args.name.now c.self.inside.entries.entries) ∙ ap (λ t. value_at t c.args.name.now) c.self.view_is

@@ -9,4 +9,5 @@ fault_number NoMemory = None
 
 abbrev pub fault_text : BindFault → List ℕ
 fault_text Full = codes "limit reached: bindings"
+-- (no definition makes this one: want of memory is no part of what is meant)
 fault_text NoMemory = codes "out of memory"

@@ -38,7 +38,7 @@ fn push_matching(
     requires { list_any (is_same pair.now) pairs.old ≡ false }
     ensures { OnOk result (pairs.new ≡ pairs.old ++ matching event.now history.now (pair.now ∷ [])) }
 {
-    if history.matches(&pair.sequence, event) {
+    if history.matches(pair.sequence.sequence(), event) {
         pairs.push_copy(alloc, pair)?;
     }
     Ok(())

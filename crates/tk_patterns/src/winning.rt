@@ -278,10 +278,10 @@ fn after_pair<'a>(
     ensures { option_map shown result ≡ held_at_last (option_map shown holder.entry)
         (of_matching event.now history.now script.now pair.now) }
 {
-    if !history.matches(&pair.sequence, event) {
+    if !history.matches(pair.sequence.sequence(), event) {
         return holder;
     }
-    match &pair.sequence {
+    match pair.sequence.sequence() {
         Sequence::Physical(patterns) => {
             let next = Contender {
                 patterns,

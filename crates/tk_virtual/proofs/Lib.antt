@@ -1,4 +1,5 @@
 pub mod ClassLemmas
+pub mod NameLemmas
 pub mod NamedLemmas
 pub mod OnceLemmas
 pub mod PairLemmas

@@ -6,6 +6,7 @@ use Rattle.std.specs.Str.{bytes_eq}
 use Rattle.std.proofs.lemmas.List.Elements.{All-from_recursion}
 use Rattle.std.proofs.lemmas.Map.Keys.{IsDistinct-head, IsDistinct-tail}
 use Rattle.std.proofs.lemmas.Slice.Eq.{bytes_eq-Decides}
+use Rattle.tk_sequences.specs.Writing.{canonical}
 use Rattle.tk_virtual.specs.Virtual.{is_same}
 use Rattle.tk_virtual.specs.declared.pair.Pair.{Pair}
 
@@ -15,7 +16,7 @@ equal_back one other =
     one_answer (bytes_eq one other) (bytes_eq other one) (bytes_eq-Decides one other) (λ t. sym (back.0 t), λ is. back.1 (sym is))
 
 same_back : (one other : Pair) → is_same one other ≡ is_same other one
-same_back one other = rw (equal_back other.name one.name, equal_back other.written one.written) refl
+same_back one other = rw (equal_back other.name one.name, equal_back (canonical other.sequence) (canonical one.sequence)) refl
 
 -- none before a pair is the same
 pub not_before : (pairs : List Pair) (i : ℕ) (pair : Pair) → IsDistinct is_same pairs → i < length pairs → pair ≡ get_or pairs i pair

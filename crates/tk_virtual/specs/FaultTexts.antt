@@ -18,4 +18,5 @@ fault_text (BadSequence text) = codes "bad event sequence " ++ (quoted text ++ c
 fault_text (BadKeysym word) = codes "bad event type or keysym " ++ (quoted word ++ codes "")
 fault_text VirtualInVirtual = codes "virtual event not allowed in definition of another virtual event"
 fault_text Full = codes "limit reached: virtual"
+-- (no definition makes this one: want of memory is no part of what is meant)
 fault_text NoMemory = codes "out of memory"

@@ -40,9 +40,9 @@ not_virtual (Ok (sequences.Virtual name)) = Err VirtualInVirtual
 not_virtual (Ok (sequences.Physical patterns)) = Ok (sequences.Physical patterns)
 not_virtual (Err fault) = Err (fault_of fault)
 
--- a pair, with the sequence's canonical form
+-- a pair of these
 abbrev pub pair_of : List ℕ → Sequence → Pair
-pair_of name sequence = record { name = name; sequence = sequence; written = canonical sequence }
+pair_of name sequence = record { name = name; sequence = sequence }
 
 abbrev pub with_sequence : List ℕ → OrFault Sequence → OrFault Pair
 with_sequence name (Ok sequence) = Ok (pair_of name sequence)
@@ -63,7 +63,7 @@ has_name name pair = bytes_eq pair.name name
 
 -- one name, and sequences of one canonical form
 abbrev pub is_same : Pair → Pair → Bool
-is_same wanted pair = bytes_eq pair.name wanted.name && bytes_eq pair.written wanted.written
+is_same wanted pair = bytes_eq pair.name wanted.name && bytes_eq (canonical pair.sequence) (canonical wanted.sequence)
 
 -- how many pairs an application has at most
 abbrev pub most_pairs : ℕ
@@ -123,7 +123,7 @@ meanings_of pairs = map (λ pair. (pair.name, pair.sequence)) pairs
 
 -- the sequences of a name in their canonical form
 abbrev pub written_of : List ℕ → List Pair → List (List ℕ)
-written_of name pairs = map (λ pair. pair.written) (filter (has_name name) pairs)
+written_of name pairs = map (λ pair. canonical pair.sequence) (filter (has_name name) pairs)
 
 -- the names, each where it first stands
 abbrev pub with_name : List (List ℕ) → Pair → List (List ℕ)

@@ -22,7 +22,7 @@ pub(crate) fn file_in(
     ensures others { (other : ℕ) → other ≢ sequence_class pair.sequence → listed_in other classes.new.entries ≡ listed_in other classes.old.entries }
     ensures err { OnErr result ((other : ℕ) → listed_in other classes.new.entries ≡ listed_in other classes.old.entries) }
 {
-    let class = sequence_class(&pair.sequence);
+    let class = sequence_class(pair.sequence.sequence());
     if let Some(own) = classes.get_mut(&class) {
         return own.push(alloc, pair);
     }
@@ -81,6 +81,6 @@ pub(crate) fn delete_name_in(
         ≡ (if list_any (is_of_class class) pairs.now then without_name name.now (listed_in class classes.old.entries) else listed_in class classes.old.entries) }
 {
     for pair in pairs {
-        take_out_name_in(classes, sequence_class(&pair.sequence), name);
+        take_out_name_in(classes, sequence_class(pair.sequence.sequence()), name);
     }
 }

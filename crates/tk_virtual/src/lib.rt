@@ -9,6 +9,7 @@ mod named;
 mod pair;
 mod pairs;
 mod table;
+mod written;
 
 pub use class::{VIRTUAL_CLASS, class_number, sequence_class};
 pub use fault::VirtualFault;
@@ -16,3 +17,4 @@ pub use list::PairList;
 pub use pair::{Pair, name_meant, pair_meant};
 pub use pairs::VirtualPairs;
 pub use table::VirtualTable;
+pub use written::WrittenSequence;

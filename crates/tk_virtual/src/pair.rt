@@ -5,6 +5,7 @@ ghost use Rattle.tk_sequences.specs.Words.{name_in};
 ghost use Rattle.tk_virtual.specs.Virtual.{has_name, is_same, name_or_fault, not_virtual, pair_meant, pair_of};
 
 use crate::fault::VirtualFault;
+use crate::written::WrittenSequence;
 use std::alloc::{AllocError, Global};
 use std::hash::{Hash, Hasher};
 use tcl_text::Text;
@@ -14,9 +15,7 @@ use tk_sequences::{Sequence, VirtualName};
 pub struct Pair {
     pub name: VirtualName,
     /// A physical one.
-    pub sequence: Sequence,
-    /// The sequence in its canonical form.
-    pub written: Text,
+    pub sequence: WrittenSequence,
 }
 
 /// The name that a word has in its brackets. `BadName` (33) where it has none.
@@ -46,12 +45,8 @@ fn sequence_meant(alloc: Global, text: &Text) -> Result<Sequence, VirtualFault>
 fn pair_of(alloc: Global, name: VirtualName, sequence: Sequence) -> Result<Pair, AllocError>
     ensures { IfOk result (λ pair. pair ≡ pair_of name sequence) }
 {
-    let written = sequence.canonical(alloc)?;
-    Ok(Pair {
-        name,
-        sequence,
-        written,
-    })
+    let sequence = WrittenSequence::new(alloc, sequence)?;
+    Ok(Pair { name, sequence })
 }
 
 /// The pair that a name and a sequence spell.
@@ -82,7 +77,7 @@ impl Pair {
         ensures { result ≡ is_same wanted.now self.now }
     {
         self.name.as_str() == wanted.name.as_str()
-            && self.written.as_str() == wanted.written.as_str()
+            && self.sequence.canonical().as_str() == wanted.sequence.canonical().as_str()
     }
 
     /// The same pair.
@@ -92,7 +87,6 @@ impl Pair {
         Ok(Pair {
             name: self.name.copy()?,
             sequence: self.sequence.copy(alloc)?,
-            written: self.written.copy()?,
         })
     }
 }
@@ -104,8 +98,9 @@ impl PartialEq for Pair {
     ghost use Rattle.std.specs.Cmp.Rules.{comparing};
     ghost use Rattle.std.specs.Ordering.{on, eq_of_both, flip_args};
     ghost use Rattle.std.proofs.Common.{rules};
+    ghost use Rattle.tk_sequences.specs.Writing.{canonical};
 
-    ghost eq = { eq_of_both (flip_args (on (λ x. x.name) (pointwise nat_eq))) (flip_args (on (λ x. x.written) (pointwise nat_eq))) };
+    ghost eq = { eq_of_both (flip_args (on (λ x. x.name) (pointwise nat_eq))) (flip_args (on (λ x. canonical x.sequence) (pointwise nat_eq))) };
 
     ghost laws = { Prim.search (comparing, rules) };
 
@@ -128,16 +123,17 @@ impl Hash for Pair {
     ghost use Rattle.std.specs.Hash as fed;
     ghost use Rattle.std.specs.Str.{bytes_eq};
     ghost use Rattle.std.proofs.Common.{sym};
+    ghost use Rattle.tk_sequences.specs.Writing.{canonical};
 
-    ghost hash_input = { λ x. fed.str x.name ++ fed.str x.written };
+    ghost hash_input = { λ x. fed.str x.name ++ fed.str (canonical x.sequence) };
 
     ghost respects_eq = { λ x y h i.
-        fed.str (sym ((bytes_decides y.name x.name).0 (first_so (bytes_eq y.name x.name) (bytes_eq y.written x.written) h)) i)
-        ++ fed.str (sym ((bytes_decides y.written x.written).0 (second_so (bytes_eq y.name x.name) (bytes_eq y.written x.written) h)) i) };
+        fed.str (sym ((bytes_decides y.name x.name).0 (first_so (bytes_eq y.name x.name) (bytes_eq (canonical y.sequence) (canonical x.sequence)) h)) i)
+        ++ fed.str (sym ((bytes_decides (canonical y.sequence) (canonical x.sequence)).0 (second_so (bytes_eq y.name x.name) (bytes_eq (canonical y.sequence) (canonical x.sequence)) h)) i) };
 
     fn hash<H: Hasher>(&self, state: &mut H) {
         self.name.as_str().hash(state);
-        self.written.as_str().hash(state);
+        self.sequence.canonical().as_str().hash(state);
     }
 }
 
@@ -147,7 +143,6 @@ impl Drop for Pair {
         let Pair {
             name: _,
             sequence: _,
-            written: _,
         } = self;
     }
 }

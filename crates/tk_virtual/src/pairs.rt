@@ -1,15 +1,18 @@
 //! The pairs of one application.
 ghost use Rattle.std.specs.Prelude.{◌≡◌, ◌≢◌, ℕ, ◌-◌, false, [], ◌∷◌, ◌++◌, length, take, map, filter, IfOk, IfErr, OnOk, OnErr, Ok, Err};
 ghost use Rattle.std.specs.List.{IsDistinct, list_any};
-ghost use Rattle.std.specs.Str.{bytes_eq};
+ghost use Rattle.tk_sequences.specs.Words.{in_brackets};
+ghost use Rattle.tk_sequences.specs.Writing.{canonical};
 ghost use Rattle.tk_virtual.specs.Classes.{is_of_class};
-ghost use Rattle.tk_virtual.specs.Virtual.{added, all_added, has_name, is_same, names_of, with_name, with_pair, without_name, without_pair, written_names, written_of};
+ghost use Rattle.tk_virtual.specs.Named.{names_in};
+ghost use Rattle.tk_virtual.specs.Virtual.{added, all_added, has_name, is_same, with_name, with_pair, without_name, without_pair, written_names, written_of};
 
 use crate::class::sequence_class;
 use crate::classes::{delete_name_in, file_in, take_last_in, take_out_in};
 use crate::fault::VirtualFault;
 use crate::list::PairList;
 use crate::pair::{Pair, pair_meant};
+use indexmap::IndexSet;
 use std::alloc::{AllocError, Global};
 use std::collections::HashMap;
 use std::marker::Model;
@@ -189,7 +192,7 @@ impl VirtualPairs {
         let Some(pair) = self.pairs.take_last() else {
             return;
         };
-        take_last_in(&mut self.classes, sequence_class(&pair.sequence));
+        take_last_in(&mut self.classes, sequence_class(pair.sequence.sequence()));
     }
 
     /// Takes out all pairs of a name (`event delete` of event(n)). It takes no memory.
@@ -207,17 +210,18 @@ impl VirtualPairs {
         let Some(pair) = self.pairs.delete_pair(wanted) else {
             return;
         };
-        take_out_in(&mut self.classes, sequence_class(&pair.sequence), wanted);
+        let class = sequence_class(pair.sequence.sequence());
+        take_out_in(&mut self.classes, class, wanted);
     }
 
     /// The names that have pairs, in their brackets, each where it first stands (`event info` of event(n)).
     pub fn names(&self, alloc: Global) -> Result<TextList, AllocError>
         ensures { IfOk result (λ list. list ≡ written_names self.now) }
     {
-        let names = names_of(alloc, self.all())?;
+        let mut told = IndexSet::new(alloc);
         let mut list = TextList::new(alloc);
-        for name in &names {
-            list.push(name.canonical(alloc)?)?;
+        for pair in self.all() {
+            tell_name(alloc, &mut told, &mut list, pair)?;
         }
         Ok(list)
     }
@@ -232,41 +236,29 @@ impl VirtualPairs {
 
 /// The canonical forms of the sequences.
 fn written_forms(alloc: Global, pairs: &[Pair]) -> Result<TextList, AllocError>
-    ensures { IfOk result (λ list. list ≡ map (λ pair. pair.written) pairs.now) }
+    ensures { IfOk result (λ list. list ≡ map (λ pair. canonical pair.sequence) pairs.now) }
 {
     let mut list = TextList::new(alloc);
     for pair in pairs {
-        list.push(pair.written.copy()?)?;
+        list.push(pair.sequence.canonical().copy()?)?;
     }
     Ok(list)
 }
 
-/// The names, each where it first stands.
-fn names_of(alloc: Global, pairs: &[Pair]) -> Result<Vec<VirtualName>, AllocError>
-    ensures { IfOk result (λ names. names.items ≡ names_of pairs.now) }
+/// Tells the name of a pair, unless it was told. By hashing: no name is compared with all that were told.
+fn tell_name<'a>(
+    alloc: Global,
+    told: &mut IndexSet<&'a str>,
+    list: &mut TextList,
+    pair: &'a Pair,
+) -> Result<(), AllocError>
+    ensures told { OnOk result (names_in told.new.keys ≡ with_name (names_in told.old.keys) pair.now) }
+    ensures list { OnOk result (list.old ≡ map in_brackets (names_in told.old.keys) → list.new ≡ map in_brackets (names_in told.new.keys)) }
 {
-    let mut names = Vec::new(alloc);
-    for pair in pairs {
-        push_name(&mut names, pair)?;
-    }
-    Ok(names)
-}
-
-/// Adds the name of a pair, unless it is there.
-fn push_name(names: &mut Vec<VirtualName>, pair: &Pair) -> Result<(), AllocError>
-    ensures { OnOk result (names.new.items ≡ with_name names.old.items pair.now) }
-{
-    if !has_among(names, &pair.name) {
-        names.push(pair.name.copy()?)?;
+    if told.insert(pair.name.as_str())? {
+        list.push(pair.name.canonical(alloc)?)?;
     }
     Ok(())
-}
-
-/// Whether a name is among some.
-fn has_among(names: &[VirtualName], name: &VirtualName) -> bool
-    ensures { result ≡ list_any (λ other. bytes_eq other name.now) names.now }
-{
-    names.iter().any(|other| other.as_str() == name.as_str())
 }
 
 /// By hand: a proof sees one call where it is dropped, and not its parts.

@@ -1,14 +1,17 @@
 //! The choice of scripts.
-ghost use Rattle.std.specs.Prelude.{◌≡◌, IfOk};
+ghost use Rattle.std.specs.Prelude.{◌≡◌, IfOk, OnOk};
 ghost use Rattle.tk_dispatch.specs.Dispatch.{script_of, scripts_for, scripts_of, with_fields};
+ghost use Rattle.tk_dispatch.specs.Made.{AreMade};
 ghost use Rattle.tk_patterns.specs.Shared as bindings_of;
 ghost use Rattle.tk_tree.specs.Shared as windows_of;
 ghost use Rattle.tk_virtual.specs.Virtual.{meanings_of};
 ghost use Rattle.tk_virtual.specs.Shared as virtuals_of;
 
+use crate::made::{keep_long, made_for};
 use crate::substitute;
 use crate::tag::is_live;
 use std::alloc::{AllocError, Global};
+use std::collections::HashMap;
 use tcl_text::message::limit;
 use tcl_text::{Text, TextFault, TextList};
 use tk_base::Win;
@@ -101,14 +104,42 @@ fn scripts_of(
         choice.now.history.now choice.now.event.now tags.now) }
 {
     let mut scripts = TextList::new(alloc);
+    let mut made = HashMap::new(alloc);
     for tag in tags {
-        match script_of(alloc, choice, tag.as_str())? {
+        match script_once(alloc, choice, &mut made, tag.as_str())? {
             Some(Ok(script)) => scripts.push(script)?,
             Some(Err(text)) => return Ok(Err(text)),
             None => {}
         }
     }
     Ok(Ok(scripts))
+}
+
+/// The script of a tag, if one is to run. A long one is made for the first tag of a name, and shared by the others.
+fn script_once<'a>(
+    alloc: Global,
+    choice: &Choice<'_>,
+    made: &mut HashMap<&'a str, Text>,
+    tag: &'a str,
+) -> Result<Option<Result<Text, Text>>, AllocError>
+    requires { AreMade (script_of (windows_of.own_of choice.now.owner choice.now.windows.now)
+        (meanings_of choice.now.virtuals.now) (bindings_of.own_of choice.now.owner choice.now.bindings.now)
+        choice.now.history.now choice.now.event.now) made.old }
+    ensures script { IfOk result (λ script. script ≡ script_of (windows_of.own_of choice.now.owner choice.now.windows.now)
+        (meanings_of choice.now.virtuals.now) (bindings_of.own_of choice.now.owner choice.now.bindings.now)
+        choice.now.history.now choice.now.event.now tag.now) }
+    ensures made { OnOk result (AreMade (script_of (windows_of.own_of choice.now.owner choice.now.windows.now)
+        (meanings_of choice.now.virtuals.now) (bindings_of.own_of choice.now.owner choice.now.bindings.now)
+        choice.now.history.now choice.now.event.now) made.new) }
+{
+    if let Some(script) = made_for(made, tag) {
+        return Ok(Some(Ok(script.copy()?)));
+    }
+    let script = script_of(alloc, choice, tag)?;
+    if let Some(Ok(script)) = &script {
+        keep_long(made, tag, script)?;
+    }
+    Ok(script)
 }
 
 /// The script of a tag, if one is to run.

@@ -5,6 +5,7 @@
 mod dispatch;
 mod field;
 mod histories;
+mod made;
 mod numbers;
 mod own;
 mod push;

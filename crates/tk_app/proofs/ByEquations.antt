@@ -10,6 +10,7 @@ use Rattle.tk_app.specs.Items.{idle_tasks_meaning, item_meaning, settle_item}
 use Rattle.tk_app.specs.JobLaws.{CommandsAreCalled, Destroys, Dispatches, ScriptsAreRun, UpdateGoes, UpdatesIdleTasks}
 use Rattle.tk_app.specs.Jobs.{meaning, meaning_by}
 use Rattle.tk_app.specs.Outside.{run_in}
+use Rattle.tk_app.specs.Settle.{EquationsAreMet}
 use Rattle.tk_app.specs.SettleJob.{Settles, Updates, settle_meaning, update_meaning}
 use Rattle.tk_app.proofs.Behind.{destroy_is, idle_tasks_are, item_is, settle_item_is, then_dispatched}
 use Rattle.tk_app.proofs.Commands.{command_called, scripts_run}
@@ -49,3 +50,6 @@ updates room state sound = by_run (λ (run : RunsScripts). meaning_by run (settl
 
 pub settles_all : Settles
 settles_all state sound = settle_goes state sound ∙ settle_item_is (run_in 200) settle_meaning state ∙ ap (λ (run : RunsScripts). settle_item run settle_meaning state) (sym (scripts_run 200))
+
+pub equations_are_met : EquationsAreMet
+equations_are_met = (update_meaning, updates, (settle_meaning, settles_all))

@@ -31,7 +31,7 @@ use Rattle.tk_app.specs.Items.{item_meaning, with_layout}
 use Rattle.tk_app.specs.Jobs.{meaning, meaning_by}
 use Rattle.tk_app.specs.Outside.{outside, run_in}
 use Rattle.tk_app.specs.Seen.{Meaning, Seen, served_by}
-use Rattle.tk_app.specs.Settle.{IsSoundIn, IsUpdate}
+use Rattle.tk_app.specs.Settle.{IsSoundIn, IsUpdate, OneSettle}
 use Rattle.tk_app.specs.SettleJob.{OneUpdate, OnlySettle, OnlyUpdate, settle_meaning, update_meaning}
 use Rattle.tk_app.specs.Sound.{EndsSound, ScriptsKeepSound, ScriptsTakeNoSteps}
 use Rattle.tk_app.specs.SoundByJob.{KeepsSound}
@@ -145,6 +145,15 @@ pub only_settle : OnlySettle
 only_settle update meets other is state sound =
     sym (only_one 200 (scripts_in update 200) (scripts_same update meets 200) (λ s. is_closed s.shows.panel) settle_meaning other settle_goes
     (λ state sound. is state sound ∙ sym (settle_item_is (scripts_in update 200) other state)) state sound)
+
+pub one_settle : OneSettle
+one_settle update is_update settle meets other_update is_other_update other_settle others_meet = record {
+  settles = λ state sound. only_settle update is_update settle meets state sound ∙ sym (only_settle other_update is_other_update other_settle others_meet state sound);
+  updates = λ room state sound.
+      only_update update is_update room (update (scripts_in update room)) (is_update room) state sound
+      ∙ sym (only_update other_update is_other_update room (other_update (scripts_in other_update room)) (is_other_update room) state sound);
+  scripts = λ room script state sound. one_update update is_update room script state sound ∙ sym (one_update other_update is_other_update room script state sound);
+}
 
 pub keeps_sound : KeepsSound
 keeps_sound room state sound = (

@@ -1,5 +1,5 @@
 -- What the commands of an application do to its windows, and to what is packed.
-use Rattle.std.proofs.Common.{◌≡◌, ℕ, Bool, true, false, cond, List, [], ◌∷◌, Option, Some, None, refl, sym, subst}
+use Rattle.std.proofs.Common.{◌≡◌, ℕ, Bool, true, false, cond, List, [], ◌∷◌, Option, Some, None, refl, sym, ap, subst}
 use Rattle.std.specs.Prelude.{Result, Ok, Err, codes, length, option_and_then}
 use Rattle.std.specs.Option.{option_map_or}
 use Rattle.std.specs.Str.{bytes_eq}
@@ -43,7 +43,9 @@ use Rattle.tk_pack_commands.specs.Targets.{begins_path}
 use Rattle.tk_panel.specs.Commands.{put_to, puts_words}
 use Rattle.tk_panel.specs.Panel.{Panel}
 use Rattle.tk_screen.specs.Changes.{changed, changed_after, wrote}
-use Rattle.tk_screen.specs.Own.{Windowing}
+use Rattle.tk_screen.specs.declared.toplevel.Toplevel.{Toplevel}
+use Rattle.tk_screen.specs.Layout.{size_of}
+use Rattle.tk_screen.specs.Own.{Windowing, with_title}
 use Rattle.tk_screen.specs.Shapes.{variable_text}
 use Rattle.tk_screen.specs.Widgets.{widget_at}
 use Rattle.tk_sequences.specs.declared.event.Event.{Event}
@@ -68,7 +70,8 @@ use Rattle.tk_window_commands.specs.declared.commands.WindowCommand.TheVariants.
 use Rattle.tk_window_commands.specs.declared.create.Ready.{Ready}
 use Rattle.tk_window_commands.specs.Path.{asked_of, path_words, widget_words}
 use Rattle.tk_window_commands.specs.Wm.{is_main, title_set, title_words, wm_words}
-use Rattle.tk_commands.specs.Binding.{arrivals_in, binding_command_done, event_told}
+use Rattle.tk_commands.specs.Binding.{binding_command_done, event_told}
+use Rattle.tk_panel.specs.Deliver.{arrivals_in}
 use Rattle.tk_commands.specs.Class.{ClassDone, class_command, class_told, outcome_for}
 use Rattle.tk_commands.specs.Commands.{command_done, command_named, done_by, panel_command}
 use Rattle.tk_commands.specs.declared.binding.BindingCommand.{BindingCommand}
@@ -133,11 +136,18 @@ puts_screen (channel ∷ text ∷ []) panel = by (bytes_eq channel (codes "stdou
 puts_screen (channel ∷ text ∷ word ∷ words) panel = refl
 
 -- `wm`
+titled_size : (title : List ℕ) (own : Windowing) → size_of (with_title title own) ≡ size_of own
+titled_size title own = by own.toplevel
+  where
+    by : (toplevel : Option Toplevel) → size_of (with_title title (record own { toplevel = toplevel })) ≡ size_of (record own { toplevel = toplevel })
+    by None = refl
+    by (Some toplevel) = refl
+
 title_scene : (path title : List ℕ) (own : Windowing) → scene_of (title_set path title own).own ≡ scene_of own
 title_scene path title own = by (is_main path own) refl
   where
     by : (b : Bool) → is_main path own ≡ b → scene_of (title_set path title own).own ≡ scene_of own
-    by true is = rw is refl
+    by true is = rw is (ap (λ (size : ℕ × ℕ). (own.tree, (own.packs, size))) (titled_size title own))
     by false is = rw is refl
 
 titles_scene : (words : List (List ℕ)) (own : Windowing) → scene_of (title_words words own).own ≡ scene_of own
@@ -275,7 +285,7 @@ module _ (Q : Scene → Scene → Type 0) (acts : HoldsOnScene Q) where
   bindtags_does (path ∷ list ∷ []) scene = by (at_path path scene.0)
     where
       items : (number : ℕ) (given : Result (List (List ℕ)) (List ℕ)) → Q scene ((with_items number given scene.0).0, scene.1)
-      items number (Ok tags) = acts.changed number (with_tags tags) scene (record { number = λ w. refl; parent = λ w. refl; dying = λ w is. is })
+      items number (Ok tags) = acts.changed number (with_tags tags) scene (record { number = λ w. refl; parent = λ w. refl; dying = λ w is. is }) (λ w. refl)
       items number (Err text) = acts.same scene
 
       by : (window : Option Window) → Q scene ((with_list path list window scene.0).0, scene.1)

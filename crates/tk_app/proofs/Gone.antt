@@ -139,7 +139,7 @@ module _ (room : ℕ) (all : List ℕ) where
       (λ begun. and_then (global_meaning (run_in room) script begun) (λ left code text. after_bound_behind (run_in room) (bound_behind (run_in room) scripts behind) behind left (out_of_global code) text))
       (λ steps. good_then first (global_meaning (run_in room) script (record state { steps = steps }))
       (λ left code text. after_bound_behind (run_in room) (bound_behind (run_in room) scripts behind) behind left (out_of_global code) text)
-      (global_since (OnTrees StaysAndGrows) grow_on_scene (first, no_packs) room script (record state { steps = steps }) since)
+      (global_since (OnTrees StaysAndGrows) grow_on_scene (first, (no_packs, (0, 0))) room script (record state { steps = steps }) since)
       (λ left code text kept. by (good_bound first behind rest scripts) left (out_of_global code) text kept))
     where
       by : ((left : State Seen) → From first left.shows → Good (bound_behind (run_in room) scripts behind left)) → (left : State Seen) (code : Code) (text : List ℕ) → From first left.shows
@@ -288,7 +288,7 @@ changed_dead n (window ∷ windows) later is = by (window.number == n) refl (cha
 
 -- windows that are to die, and what is packed is none of this
 dying_stays : (ns : List ℕ) (tree : Tree) → StaysAndGrows tree (all_dying ns tree)
-dying_stays ns tree = dying_acts (OnTrees StaysAndGrows) grow_on_scene ns (tree, no_packs)
+dying_stays ns tree = dying_acts (OnTrees StaysAndGrows) grow_on_scene ns (tree, (no_packs, (0, 0)))
 
 dead_all : (ns : List ℕ) (tree : Tree) → IsSound tree → (n : ℕ) → Among n ns → (window : Window) → window_at n (all_dying ns tree) ≡ Some window → window.dying ≡ true
 unfolding all_dying
@@ -432,7 +432,7 @@ module _ (update : Update) (meets : IsUpdate update) (room : ℕ) where
   runs_later : (first : Tree) → IsSound first → (script : List ℕ) (state : State Seen) → From first state.shows → EndsWith (Later first) (global_meaning run script state)
   runs_later first sound script state since =
       subst (EndsWith (Later first)) (global_same room run (scripts_same update meets room) script state (since sound).0)
-      (ends (global_meaning (run_in room) script state) (global_since (OnTrees StaysAndGrows) grow_on_scene (first, no_packs) room script state since))
+      (ends (global_meaning (run_in room) script state) (global_since (OnTrees StaysAndGrows) grow_on_scene (first, (no_packs, (0, 0))) room script state since))
     where
       ends : (o : Outcome Seen) → Kept (From first) o → EndsWith (Later first) o
       ends (Ended left code text) kept = kept

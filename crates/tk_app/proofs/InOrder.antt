@@ -1,9 +1,8 @@
 -- In an application each window that is packed is packed in its parent, and once, whatever it does; so its layout is by masters.
-use Rattle.std.proofs.Common.{◌≡◌, ◌≢◌, ℕ, ◌≤◌, Bool, true, false, cond, List, [], ◌∷◌, ◌++◌, not, Option, Some, None, refl, sym, ap, ◌∙◌, subst, arith}
+use Rattle.std.proofs.Common.{◌≡◌, ◌≢◌, ℕ, Bool, true, false, cond, List, [], ◌∷◌, ◌++◌, not, Option, Some, refl, sym, ap, ◌∙◌, subst, arith}
 use Rattle.std.specs.Prelude.{◌==◌, map, option_and_then, slice_get}
 use Rattle.std.proofs.lemmas.Bool.{eqb-false, eqb-true, ne_eqb}
 use Rattle.tcl_vars.specs.Store.{Store}
-use Rattle.tcl_control.specs.declared.code.Code.{Code}
 use Rattle.tcl_interp.specs.Evaluation.{State, Outcome, Ended, OutOfSteps}
 use Rattle.tcl_interp.proofs.Kept.{Kept}
 use Rattle.tk_base.specs.Numbered.{numbered}
@@ -14,6 +13,7 @@ use Rattle.tk_screen.specs.Own.{Windowing}
 use Rattle.tk_screen.specs.Layout.{size_of}
 use Rattle.tk_screen.specs.Shapes.{shapes}
 use Rattle.tk_screen.proofs.Twice.{apart as shapes_apart}
+use Rattle.tk_tree.specs.Change.{with_place}
 use Rattle.tk_tree.specs.Create.{parent_number, with_window}
 use Rattle.tk_tree.specs.declared.window.Window.{Window}
 use Rattle.tk_tree.specs.Own.{Tree, with_change, without_window}
@@ -21,14 +21,13 @@ use Rattle.tk_tree.specs.Window.{new_window, number_of}
 use Rattle.tk_tree.proofs.Lists.{some_same}
 use Rattle.tk_panel.specs.declared.job.Job.{Job}
 use Rattle.tk_panel.specs.Fresh.{fresh as fresh_panel}
-use Rattle.tk_app.specs.Commands.{Update, scripts_in}
+use Rattle.tk_app.specs.Commands.{scripts_in}
 use Rattle.tk_app.specs.Dispatch.{global_meaning}
-use Rattle.tk_app.specs.InOrder.{AreInOrder, ArePackedInParents, IsInOrder, ItemsKeepOrder, LiesInOrder, ScriptsKeepOrder, StaysInOrder, parent_of, times_packed}
+use Rattle.tk_app.specs.InOrder.{AreInOrder, ArePackedInParents, IsInOrder, ItemsKeepOrder, LiesInOrder, ScriptsKeepOrder, StaysInOrder, parent_of}
 use Rattle.tk_app.specs.Jobs.{meaning}
 use Rattle.tk_app.specs.Outside.{run_in}
 use Rattle.tk_app.specs.Places.{StandInOrder}
 use Rattle.tk_app.specs.Seen.{Meaning, Seen}
-use Rattle.tk_app.specs.Settle.{IsUpdate}
 use Rattle.tk_app.specs.SettleJob.{update_meaning}
 use Rattle.tk_app.specs.Sound.{EndsWith}
 use Rattle.tk_app.proofs.ByEquations.{updates}
@@ -39,8 +38,8 @@ use Rattle.tk_app.proofs.Places.{lies_by_masters}
 use Rattle.tk_app.proofs.PreOrder.{parent_in, place_behind, shape_place, shapes_behind}
 use Rattle.tk_app.proofs.Sound.{Since, at, global_since, job_since, others, same_number, same_parent, sound_acts}
 use Rattle.tk_app.proofs.SoundBySettle.{stays_by}
-use Rattle.tk_app.proofs.SoundParts.{first_sound, stays_so}
-use Rattle.tk_app.proofs.Trees.{HoldsOnScene, KeepsPlace, Scene, laid, scene_of}
+use Rattle.tk_app.proofs.SoundParts.{first_sound, stays_so, takes_any}
+use Rattle.tk_app.proofs.Trees.{HoldsOnScene, KeepsPlace, Scene, laid, placing_keeps, scene_of}
 
 -- ── parents, as windows change ──
 
@@ -101,36 +100,40 @@ parents_left m tree (packed ∷ packs) held = by (packed.number == m) refl (pare
 -- ── order stays ──
 
 abbrev pub Ordered : Scene → Type 0
-Ordered scene = IsInOrder scene.0 scene.1.packs
+Ordered scene = IsInOrder scene.0 scene.1.0.packs
 
 abbrev pub StaysOrdered : Scene → Scene → Type 0
 StaysOrdered old new = Ordered old → Ordered new
+
+ordered_changed : (number : ℕ) (change : Window → Window) (scene : Scene) → KeepsPlace change → Ordered scene → Ordered (with_change number change scene.0, scene.1)
+ordered_changed number change scene keeps_place held = record {
+  sound = sound_acts.changed number change scene.0 keeps_place held.sound;
+  parents = parents_kept scene.0 (with_change number change scene.0) scene.1.0.packs (λ n p is. parent_changed change keeps_place number n scene.0.windows ∙ is) held.parents;
+  once = held.once;
+}
 
 pub order_acts : HoldsOnScene StaysOrdered
 order_acts = record {
   same = λ scene held. held;
   after = λ first mid last one other held. other (one held);
-  changed = λ number change scene keeps_place held. record {
-    sound = sound_acts.changed number change scene.0 keeps_place held.sound;
-    parents = parents_kept scene.0 (with_change number change scene.0) scene.1.packs (λ n p is. parent_changed change keeps_place number n scene.0.windows ∙ is) held.parents;
-    once = held.once;
-  };
+  changed = λ number change scene keeps_place keeps_rectangle held. ordered_changed number change scene keeps_place held;
+  placed = λ number place is_mapped scene may held. ordered_changed number (with_place place is_mapped) scene (placing_keeps place is_mapped) held;
   gone = λ number scene held. record {
     sound = sound_acts.gone number scene.0 held.sound;
-    parents = parents_left number scene.0 scene.1.packs held.parents;
+    parents = parents_left number scene.0 scene.1.0.packs held.parents;
     once = λ n.
-        (let fewer = times_filter n (λ (p : Packed). not (p.number == number)) scene.1.packs in
+        (let fewer = times_filter n (λ (p : Packed). not (p.number == number)) scene.1.0.packs in
         let few = held.once n in
         omega (arith, fewer, few));
   };
   made = λ path kind scene named may held. record {
     sound = sound_acts.made path kind scene.0 named may held.sound;
-    parents = parents_kept scene.0 (with_window path kind (parent_number path scene.0) scene.0) scene.1.packs
+    parents = parents_kept scene.0 (with_window path kind (parent_number path scene.0) scene.0) scene.1.0.packs
         (λ n p is. parent_more n p scene.0.windows (new_window scene.0.next_number path kind (parent_number path scene.0)) is) held.parents;
     once = held.once;
   };
   packed = λ words scene held.
-      (let fine = pack_fine scene.0 held.sound words scene.1 (record { parents = held.parents; once = held.once }) in
+      (let fine = pack_fine scene.0 held.sound words scene.1.0 (record { parents = held.parents; once = held.once }) in
       record { sound = held.sound; parents = fine.parents; once = fine.once });
 }
 
@@ -166,13 +169,8 @@ first_ordered name size = record { sound = first_sound name size; parents = tt; 
 pub stays_in_order : {M : Type 0} (answer : M → Meaning) → StaysInOrder answer
 stays_in_order answer =
     stays_by answer AreInOrder (λ own held. held.sound)
-    (stays_so Ordered
-    (record {
-      script = λ state held script. scripts_keep_order update_meaning updates 200 script state held;
-      job = jobs_ordered 200;
-      first = first_ordered;
-    })
-    answer)
+    (stays_so Ordered (record { script = λ state held script. scripts_keep_order update_meaning updates 200 script state held; job = jobs_ordered 200 }) first_ordered
+    (takes_any Ordered (λ size own held. held)) answer)
 
 -- ── where windows lie ──
 

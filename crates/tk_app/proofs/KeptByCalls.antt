@@ -8,7 +8,7 @@ use Rattle.tcl_text.specs.StringCommands.{concat_words}
 use Rattle.tcl_text.specs.Commands.{command_answer}
 use Rattle.tcl_text.specs.declared.fault.ListFault.{ListFault}
 use Rattle.tcl_text.specs.declared.fault.SetFault.{SetFault}
-use Rattle.tcl_vars.specs.Sound.{AllBelow, FramesDescend}
+use Rattle.tcl_vars.specs.Links.{AllBelow, FramesDescend}
 use Rattle.tcl_vars.specs.Store.{Store, frame_at, with_variable}
 use Rattle.tcl_vars.proofs.BelowLemmas.{FramesDescend-take}
 use Rattle.tcl_table.specs.declared.builtin.Builtin.{Builtin as BuiltinName}

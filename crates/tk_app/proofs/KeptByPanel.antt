@@ -44,7 +44,7 @@ use Rattle.tk_window_commands.specs.declared.commands.WindowCommand.{WindowComma
 use Rattle.tk_window_commands.specs.declared.commands.WindowCommand.TheVariants.{Make, Winfo, Wm}
 use Rattle.tk_window_commands.specs.declared.create.Ready.{Ready}
 use Rattle.tk_window_commands.specs.Path.{asked_of, path_words, widget_words}
-use Rattle.tk_commands.specs.Binding.{arrivals_in}
+use Rattle.tk_panel.specs.Deliver.{arrivals_in}
 use Rattle.tk_commands.specs.Calls.{calls as panel_calls, outcome_told}
 use Rattle.tk_commands.specs.Class.{class_told}
 use Rattle.tk_commands.specs.Commands.{command_done, command_named, done_by, panel_command}

@@ -9,7 +9,7 @@ use Rattle.tcl_text.specs.declared.fault.UnsetFault.TheVariants as unsets
 use Rattle.tcl_vars.specs.declared.content.Content.{Content}
 use Rattle.tcl_vars.specs.declared.content.Content.TheVariants.{Scalar, Array, Link}
 use Rattle.tcl_vars.specs.Name.{Place}
-use Rattle.tcl_vars.specs.Sound.{AllBelow, FramesDescend, IsBelow}
+use Rattle.tcl_vars.specs.Links.{AllBelow, FramesDescend, IsBelow}
 use Rattle.tcl_vars.specs.Store.{Frame, Store, array_state, content_at, content_with, content_without, element_place_in, frame_at, frame_with_rest, holds_value, is_plain_name, place_in, variable_count, variable_place, with_array, with_array_at, with_array_of, with_content, with_element, with_link, with_new_content, with_rest, with_text_at, with_variable, within_variables, without_element, without_text_at, without_variable}
 use Rattle.tcl_vars.specs.Table.{value_at, with_value, without}
 use Rattle.tcl_vars.proofs.BelowLemmas.{AllBelow-with_value, AllBelow-without, content_with-below}

@@ -24,6 +24,7 @@ mod KeptFrames
 mod LaidOut
 mod Left
 mod Loops
+pub mod Near
 mod Nexts
 mod Only
 mod Packed
@@ -47,6 +48,8 @@ pub mod SoundParts
 pub mod Stages
 mod Standing
 mod Stores
+pub mod Told
 mod Trees
 pub mod Views
 pub mod Waits
+mod Within

@@ -7,7 +7,7 @@ use Rattle.tk_base.specs.declared.local_event.LocalEvent.{LocalEvent}
 use Rattle.tk_base.specs.declared.local_event.LocalKind.{LocalKind}
 use Rattle.tk_base.specs.declared.local_event.LocalKind.TheVariants as kinds
 use Rattle.tk_inputs.specs.Deliver.{arrived}
-use Rattle.tk_screen.specs.Own.{Windowing}
+use Rattle.tk_screen.specs.Own.{Windowing, with_size}
 use Rattle.tk_tree.specs.Own.{IsSound}
 use Rattle.tk_panel.specs.declared.job.Job.{Job}
 use Rattle.tk_panel.specs.Deliver.{arrivals_in, delivered_panel, with_arrivals, with_rectangle}
@@ -30,21 +30,7 @@ use Rattle.tk_app.proofs.ByEquations.{updates}
 use Rattle.tk_app.proofs.ByUpdate.{keeps_sound}
 use Rattle.tk_app.proofs.Trees.{Scene, end_screen, scene_of}
 
-rectangle_scene : (kind : LocalKind) (panel : Panel) → scene_of (with_rectangle kind panel).windowing ≡ scene_of panel.windowing
-rectangle_scene (kinds.Size width height) panel = refl
-rectangle_scene (kinds.Position x y) panel = refl
-rectangle_scene (kinds.Press button x y) panel = refl
-rectangle_scene (kinds.Release button x y) panel = refl
-rectangle_scene (kinds.Keydown key) panel = refl
-rectangle_scene (kinds.Keyup key) panel = refl
-rectangle_scene kinds.FocusIn panel = refl
-rectangle_scene kinds.FocusOut panel = refl
-
-given_scene : (event : LocalEvent) (panel : Panel) → scene_of (delivered_panel event panel).windowing ≡ scene_of panel.windowing
-unfolding delivered_panel
-given_scene event panel = rectangle_scene event.kind (with_arrivals (arrived event panel.windowing.tree (arrivals_in panel)) panel)
-
--- what holds of windows, and of what is packed
+-- what holds of windows, of what is packed, and of the size of the rectangle
 module _ (holds : Scene → Type 0) where
   abbrev pub OnScreen : Windowing → Type 0
   OnScreen own = holds (scene_of own)
@@ -52,11 +38,28 @@ module _ (holds : Scene → Type 0) where
   abbrev pub OnState : State Seen → Type 0
   OnState state = OnScreen state.shows.panel.windowing
 
-  -- scripts and jobs keep it, and it holds of an application at first
+  -- and keeps holding where an event gives the rectangle a size
+  abbrev pub TakesSize : LocalEvent → Type 0
+  TakesSize event = (panel : Panel) → OnScreen panel.windowing → OnScreen (with_rectangle event.kind panel).windowing
+
+  -- so it does by any event, where it does by any size
+  pub takes_any : ((size : ℕ × ℕ) (own : Windowing) → OnScreen own → OnScreen (with_size size own)) → (event : LocalEvent) → TakesSize event
+  takes_any sized event panel held = by event.kind
+    where
+      by : (kind : LocalKind) → OnScreen (with_rectangle kind panel).windowing
+      by (kinds.Size width height) = sized (width, height) panel.windowing held
+      by (kinds.Position x y) = held
+      by (kinds.Press button x y) = held
+      by (kinds.Release button x y) = held
+      by (kinds.Keydown key) = held
+      by (kinds.Keyup key) = held
+      by kinds.FocusIn = held
+      by kinds.FocusOut = held
+
+  -- scripts and jobs keep it
   pub record IsKept : Type 0 where
     pub script : (state : State Seen) → OnState state → (script : List ℕ) → EndsWith OnScreen (global_meaning (scripts_in update_meaning 200) script state)
     pub job : (state : State Seen) → OnState state → (job : Job) → EndsWith OnScreen (meaning 200 job state)
-    pub first : (name : List ℕ) (size : ℕ × ℕ) → OnScreen (fresh_panel name size 0).windowing
 
   -- what comes behind something that ends so, where it ends so in each such state
   then_so : (o : Outcome Seen) (f : State Seen → Code → List ℕ → Outcome Seen) → EndsWith OnScreen o
@@ -78,12 +81,12 @@ module _ (holds : Scene → Type 0) where
       outcome_so (Ended left code text) application kept = λ runs. kept
       outcome_so (OutOfSteps left) application kept = λ runs. absurd (cc)
 
-      started_so : (moment : ℕ) (script : List ℕ) (application : Application M) → OnScreen application.windowing → RunsWith OnScreen (started answer moment script application)
+      pub started_so : (moment : ℕ) (script : List ℕ) (application : Application M) → OnScreen application.windowing → RunsWith OnScreen (started answer moment script application)
       unfolding started_by
       started_so moment script application held =
           outcome_so (start_meaning update_meaning settle_meaning script (state_at answer moment application)) application (start_so script (state_at answer moment application) held)
 
-      settled_so : (moment : ℕ) (application : Application M) → RunsWith OnScreen application → RunsWith OnScreen (settled answer moment application)
+      pub settled_so : (moment : ℕ) (application : Application M) → RunsWith OnScreen application → RunsWith OnScreen (settled answer moment application)
       unfolding settle_meaning settled_by
       settled_so moment application held = by application.state refl
         where
@@ -92,21 +95,25 @@ module _ (holds : Scene → Type 0) where
           by Exhausted is = held
           by Closed is = held
 
-      delivered_so : (event : LocalEvent) (application : Application M) → RunsWith OnScreen application → RunsWith OnScreen (delivered event application)
-      unfolding delivered
-      delivered_so event application held = by application.state refl
+      pub delivered_so : (event : LocalEvent) (application : Application M) → TakesSize event → RunsWith OnScreen application → RunsWith OnScreen (delivered event application)
+      unfolding delivered delivered_panel
+      delivered_so event application takes held = by application.state refl
         where
           by : (s : AppState) → application.state ≡ s → RunsWith OnScreen (delivered_as s event application)
-          by Running is = λ runs. subst holds (sym (given_scene event (panel_at event.moment application))) (held is)
+          by Running is =
+              let panel : Panel = panel_at event.moment application in
+              λ runs. takes (with_arrivals (arrived event panel.windowing.tree (arrivals_in panel)) panel) (held is)
           by Exhausted is = held
           by Closed is = held
 
+    -- so it holds of an application of which it holds at first
+    module _ (first : (name : List ℕ) (size : ℕ × ℕ) → OnScreen (fresh_panel name size 0).windowing) (takes : (event : LocalEvent) → TakesSize event) {M : Type 0} (answer : M → Meaning) where
       pub stays_so : StaysWith answer update_meaning settle_meaning OnScreen
       stays_so = record {
-        fresh = λ spec runs. keeps.first spec.name (spec.width, spec.height);
-        started = started_so;
-        delivered = delivered_so;
-        settled = settled_so;
+        fresh = λ spec runs. first spec.name (spec.width, spec.height);
+        started = started_so answer;
+        delivered = λ event application held. delivered_so answer event application (takes event) held;
+        settled = settled_so answer;
       }
 
 -- ── numbered as they were made ──
@@ -118,9 +125,5 @@ first_sound name size = record { rising = (tt, tt); below = (omega arith, tt); p
 pub stays_sound : {M : Type 0} (answer : M → Meaning) → StaysWith answer update_meaning settle_meaning AreSound
 stays_sound answer =
     stays_so (λ scene. IsSound scene.0)
-    (record {
-      script = λ state sound script. (keeps_sound 200 state sound).0 update_meaning updates script;
-      job = λ state sound job. (keeps_sound 200 state sound).1 job;
-      first = first_sound;
-    })
-    answer
+    (record { script = λ state sound script. (keeps_sound 200 state sound).0 update_meaning updates script; job = λ state sound job. (keeps_sound 200 state sound).1 job })
+    first_sound (takes_any (λ scene. IsSound scene.0) (λ size own sound. sound)) answer

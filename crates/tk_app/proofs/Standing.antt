@@ -6,7 +6,7 @@ use Rattle.tcl_words.specs.declared.script.Word.{Word}
 use Rattle.tcl_words.specs.declared.script.Piece.{Piece}
 use Rattle.tcl_words.specs.declared.script.Piece.TheVariants.{Literal, Variable, Element, Bracket}
 use Rattle.tcl_text.specs.declared.fault.ParseFault.{ParseFault}
-use Rattle.tcl_vars.specs.Sound.{FramesDescend}
+use Rattle.tcl_vars.specs.Links.{FramesDescend}
 use Rattle.tcl_vars.specs.Store.{Store, variable_in, element_in}
 use Rattle.tcl_text.specs.declared.fault.ReadFault.{ReadFault}
 use Rattle.tcl_control.specs.declared.code.Code.{Code}

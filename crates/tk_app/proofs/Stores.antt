@@ -1,6 +1,6 @@
 -- Links of an application's variables lead to earlier frames, and its levels are those of frames that are there.
 use Rattle.std.proofs.Common.{◌≡◌, ℕ, zero, suc, ◌-◌, ◌<◌, Bool, true, false, nat_lt, ltb-false, if◌then◌else◌, List, [], ◌∷◌, All, length, refl, sym, subst, arith}
-use Rattle.tcl_vars.specs.Sound.{FramesDescend}
+use Rattle.tcl_vars.specs.Links.{FramesDescend}
 use Rattle.tcl_vars.specs.Store.{Store}
 use Rattle.tcl_vars.proofs.BelowLemmas.{LinksDescend-frames}
 use Rattle.tcl_vars.proofs.OnlyLinks.{links_lead, only_links_lead}

@@ -1,5 +1,5 @@
 -- What commands and jobs do to the windows of an application, and to what is packed: a few acts, one after another.
-use Rattle.std.proofs.Common.{◌≡◌, ℕ, Bool, true, false, cond, List, [], ◌∷◌, Option, Some, None, refl, sym, subst}
+use Rattle.std.proofs.Common.{◌≡◌, ◌⊎◌, inl, inr, ℕ, Bool, true, false, cond, List, [], ◌∷◌, Option, Some, None, refl, sym, subst}
 use Rattle.std.specs.Prelude.{codes, length, ◌==◌}
 use Rattle.std.specs.Str.{bytes_eq}
 use Rattle.tcl_vars.specs.Store.{Store}
@@ -13,9 +13,10 @@ use Rattle.tk_packer.specs.declared.changes.PlaceChange.{PlaceChange}
 use Rattle.tk_packer.specs.declared.changes.PlaceChange.TheVariants.{Unmap, Configure, Map}
 use Rattle.tk_packer.specs.Packs.{Packing, without_window as without_packs}
 use Rattle.tk_pack_commands.specs.Pack.{pack_words}
-use Rattle.tk_screen.specs.Layout.{changes_due, laid_out_windowing}
+use Rattle.tk_screen.specs.Layout.{changes_due, laid_out_windowing, size_of}
 use Rattle.tk_screen.specs.Own.{Windowing}
 use Rattle.tk_screen.specs.Placing.{mapped_as, placed_at, with_changed, with_changes}
+use Rattle.tk_screen.specs.Shapes.{shapes}
 use Rattle.tk_tree.specs.Change.{dying, with_place}
 use Rattle.tk_tree.specs.Create.{parent_number, refusal, with_window}
 use Rattle.tk_tree.specs.declared.window.Window.{Window}
@@ -33,12 +34,17 @@ use Rattle.tk_panel.specs.Settle.{Next, after_layout, after_round, at_home, drai
 use Rattle.tk_panel.specs.Start.{start, start_event, start_rest, timer_taken}
 use Rattle.tk_commands.specs.Course.{bound_ended, ended, ended_by, with_end}
 use Rattle.tk_app.proofs.Panels.{chosen_screen, drained_screen, laid_screen}
+use Rattle.tk_app.proofs.Within.{AllPlace, EndsWithin, PlacesWithin, layout_changes}
 
 -- a change that leaves a window its number and its parent, and doesn't let it live again
 pub record KeepsPlace (change : Window → Window) : Type 0 where
   pub number : (window : Window) → (change window).number ≡ window.number
   pub parent : (window : Window) → (change window).parent ≡ window.parent
   pub dying : (window : Window) → window.dying ≡ true → (change window).dying ≡ true
+
+-- and leaves it where it lies
+abbrev pub KeepsRectangle : (Window → Window) → Type 0
+KeepsRectangle change = (window : Window) → (change window).rectangle ≡ window.rectangle
 
 -- what holds of each of these acts on windows, and of one after another
 pub record HoldsOfActs (Q : Tree → Tree → Type 0) : Type 0 where
@@ -48,22 +54,38 @@ pub record HoldsOfActs (Q : Tree → Tree → Type 0) : Type 0 where
   pub gone : (number : ℕ) (tree : Tree) → Q tree (without_window number tree)
   pub made : (path : List ℕ) (kind : Kind) (tree : Tree) → bytes_eq path (codes ".") ≡ false → refusal path tree ≡ None → Q tree (with_window path kind (parent_number path tree) tree)
 
--- windows, and what is packed of them
+-- windows, what is packed of them, and the size of the application's rectangle
 abbrev pub Scene : Type 0
-Scene = Tree × Packing
+Scene = Tree × (Packing × (ℕ × ℕ))
 
 abbrev pub scene_of : Windowing → Scene
-scene_of own = (own.tree, own.packs)
+scene_of own = (own.tree, (own.packs, size_of own))
+
+-- the rectangle is that of a window that is there
+pub record IsOfWindow (tree : Tree) (place : Rect) : Type 0 where
+  pub number : ℕ
+  pub window : Window
+  pub there : window_at number tree ≡ Some window
+  pub its : place ≡ window.rectangle
+
+-- a window may get the rectangle: one that ends within the application's, or that of a window
+abbrev pub MayLie : Scene → Rect → Type 0
+MayLie scene place = EndsWithin scene.1.1 place ⊎ IsOfWindow scene.0 place
 
 -- what holds of each of these acts on windows and on what is packed, and of one after another
 pub record HoldsOnScene (Q : Scene → Scene → Type 0) : Type 0 where
   pub same : (scene : Scene) → Q scene scene
   pub after : (first mid last : Scene) → Q first mid → Q mid last → Q first last
-  pub changed : (number : ℕ) (change : Window → Window) (scene : Scene) → KeepsPlace change → Q scene (with_change number change scene.0, scene.1)
-  pub gone : (number : ℕ) (scene : Scene) → Q scene (without_window number scene.0, without_packs number scene.1)
+  pub changed : (number : ℕ) (change : Window → Window) (scene : Scene) → KeepsPlace change → KeepsRectangle change → Q scene (with_change number change scene.0, scene.1)
+  pub placed : (number : ℕ) (place : Rect) (is_mapped : Bool) (scene : Scene) → MayLie scene place → Q scene (with_change number (with_place place is_mapped) scene.0, scene.1)
+  pub gone : (number : ℕ) (scene : Scene) → Q scene (without_window number scene.0, (without_packs number scene.1.0, scene.1.1))
   pub made : (path : List ℕ) (kind : Kind) (scene : Scene) → bytes_eq path (codes ".") ≡ false → refusal path scene.0 ≡ None
       → Q scene (with_window path kind (parent_number path scene.0) scene.0, scene.1)
-  pub packed : (words : List (List ℕ)) (scene : Scene) → Q scene (scene.0, (pack_words words scene.0 scene.1).0)
+  pub packed : (words : List (List ℕ)) (scene : Scene) → Q scene (scene.0, ((pack_words words scene.0 scene.1.0).0, scene.1.1))
+
+-- a window that is laid out is the one that it was
+pub placing_keeps : (place : Rect) (is_mapped : Bool) → KeepsPlace (with_place place is_mapped)
+placing_keeps place is_mapped = record { number = λ w. refl; parent = λ w. refl; dying = λ w is. is }
 
 -- what holds of windows, whatever is packed
 abbrev pub OnTrees : (Tree → Tree → Type 0) → Scene → Scene → Type 0
@@ -73,7 +95,8 @@ pub on_trees : (Q : Tree → Tree → Type 0) → HoldsOfActs Q → HoldsOnScene
 on_trees Q acts = record {
   same = λ scene. acts.same scene.0;
   after = λ first mid last. acts.after first.0 mid.0 last.0;
-  changed = λ number change scene. acts.changed number change scene.0;
+  changed = λ number change scene keeps_place keeps_rectangle. acts.changed number change scene.0 keeps_place;
+  placed = λ number place is_mapped scene may. acts.changed number (with_place place is_mapped) scene.0 (placing_keeps place is_mapped);
   gone = λ number scene. acts.gone number scene.0;
   made = λ path kind scene. acts.made path kind scene.0;
   packed = λ words scene. acts.same scene.0;
@@ -127,31 +150,29 @@ destroy_screen panel (Some window) = chosen_screen (destroy_event window panel.m
 module _ (Q : Scene → Scene → Type 0) (acts : HoldsOnScene Q) where
   -- ── layout ──
 
-  mapped : (number : ℕ) (is_mapped : Bool) (found : Option Window) (scene : Scene) → Q scene (mapped_as number is_mapped found scene.0, scene.1)
-  mapped number is_mapped None scene = acts.same scene
-  mapped number is_mapped (Some window) scene =
-      acts.changed number (with_place window.rectangle is_mapped) scene (record { number = λ w. refl; parent = λ w. refl; dying = λ w is. is })
+  mapped : (number : ℕ) (is_mapped : Bool) (scene : Scene) (found : Option Window) → window_at number scene.0 ≡ found → Q scene (mapped_as number is_mapped found scene.0, scene.1)
+  mapped number is_mapped scene None is = acts.same scene
+  mapped number is_mapped scene (Some window) is = acts.placed number window.rectangle is_mapped scene (inr (record { number = number; window = window; there = is; its = refl }))
 
-  placed : (number : ℕ) (place : Rect) (found : Option Window) (scene : Scene) → Q scene (placed_at number place found scene.0, scene.1)
-  placed number place None scene = acts.same scene
-  placed number place (Some window) scene =
-      acts.changed number (with_place place window.mapped) scene (record { number = λ w. refl; parent = λ w. refl; dying = λ w is. is })
+  placed : (number : ℕ) (place : Rect) (scene : Scene) → EndsWithin scene.1.1 place → (found : Option Window) → Q scene (placed_at number place found scene.0, scene.1)
+  placed number place scene ends None = acts.same scene
+  placed number place scene ends (Some window) = acts.placed number place window.mapped scene (inl ends)
 
-  one_changed : (change : PlaceChange) (scene : Scene) → Q scene (with_changed change scene.0, scene.1)
-  one_changed (Unmap number) scene = mapped number false (window_at number scene.0) scene
-  one_changed (Configure number place) scene = placed number place (window_at number scene.0) scene
-  one_changed (Map number) scene = mapped number true (window_at number scene.0) scene
+  one_changed : (change : PlaceChange) (scene : Scene) → PlacesWithin scene.1.1 change → Q scene (with_changed change scene.0, scene.1)
+  one_changed (Unmap number) scene places = mapped number false scene (window_at number scene.0) refl
+  one_changed (Configure number place) scene places = placed number place scene places (window_at number scene.0)
+  one_changed (Map number) scene places = mapped number true scene (window_at number scene.0) refl
 
-  all_changed : (changes : List PlaceChange) (scene : Scene) → Q scene (with_changes changes scene.0, scene.1)
+  all_changed : (changes : List PlaceChange) (scene : Scene) → AllPlace scene.1.1 changes → Q scene (with_changes changes scene.0, scene.1)
   unfolding with_changes
-  all_changed [] scene = acts.same scene
-  all_changed (change ∷ changes) scene =
+  all_changed [] scene place = acts.same scene
+  all_changed (change ∷ changes) scene place =
       let next : Scene = (with_changed change scene.0, scene.1) in
-      acts.after scene next (with_changes changes next.0, scene.1) (one_changed change scene) (all_changed changes next)
+      acts.after scene next (with_changes changes next.0, scene.1) (one_changed change scene place.0) (all_changed changes next place.1)
 
   laid_scene : (own : Windowing) (store : Store) → Q (scene_of own) (scene_of (laid_out_windowing own store))
-  unfolding laid_out_windowing
-  laid_scene own store = all_changed (changes_due own store) (scene_of own)
+  unfolding laid_out_windowing changes_due
+  laid_scene own store = all_changed (changes_due own store) (scene_of own) (layout_changes (size_of own) own.packs.packs (shapes own store))
 
   -- from one panel to another
   abbrev pub Acts : Panel → Panel → Type 0
@@ -186,7 +207,7 @@ module _ (Q : Scene → Scene → Type 0) (acts : HoldsOnScene Q) where
   dying_acts (number ∷ numbers) scene =
       let next : Scene = (with_change number dying scene.0, scene.1) in
       acts.after scene next (all_dying numbers next.0, scene.1)
-      (acts.changed number dying scene (record { number = λ w. refl; parent = λ w. refl; dying = λ w is. refl }))
+      (acts.changed number dying scene (record { number = λ w. refl; parent = λ w. refl; dying = λ w is. refl }) (λ w. refl))
       (dying_acts numbers next)
 
   pub marked_acts : (numbers : List ℕ) (panel : Panel) → Acts panel (marked numbers panel)

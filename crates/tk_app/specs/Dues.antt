@@ -1,4 +1,5 @@
--- Meaning. What is due of an application, and what settling makes of that.
+-- Meaning. What is due of an application, and what settling makes of that: `settled` and `started` by the code's jobs (steps), which are `settled_by` and
+-- `started_by` by whatever meets the equations, where windows are numbered as they were made (law `comes_by_settle`).
 use Rattle.std.specs.Prelude.{◌≡◌, ℕ, ◌<◌, ◌≤◌, List, Some}
 use Rattle.tk_app.specs.Due.{IsPast}
 use Rattle.tk_app.specs.declared.state.AppState.TheVariants.{Running}

@@ -1,4 +1,4 @@
--- Meaning. What of an application can be looked at beside its section.
+-- Meaning. What of an application can be looked at beside its section. Of a `Part`, a word of steps, only its application is asked.
 use Rattle.std.specs.Prelude.{ℕ, List, Option, option_and_then, option_map, slice_get}
 use Rattle.std.specs.Result.{result_ok}
 use Rattle.tcl_vars.specs.Store.{variable_in}

@@ -19,10 +19,12 @@ pub mod Loops
 pub mod Moments
 pub mod MomentsByJob
 pub mod Names
+pub mod Near
 pub mod Outside
 pub mod Part
 pub mod Passing
 pub mod Places
+pub mod Ranges
 pub mod Rounds
 pub mod Section
 pub mod Seen
@@ -35,4 +37,5 @@ pub mod Spec
 pub mod Stages
 pub mod Stores
 pub mod Together
+pub mod Told
 pub mod Turns

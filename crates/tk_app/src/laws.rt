@@ -30,6 +30,7 @@ ghost use Rattle.tk_app.specs.SettleJob.{
   SettlesTwice,
   Updates,
 };
+ghost use Rattle.tk_app.specs.Settle.{EquationsAreMet, OneSettle};
 ghost use Rattle.tk_app.specs.LaidOut.{LeavesLaidOut, LeavesSettled};
 ghost use Rattle.tk_app.specs.Loops.{LoopsGoRound, OnlyLoops};
 ghost use Rattle.tk_app.specs.Sound.{ItemsKeepSound, ScriptsKeepSound, ScriptsTakeNoSteps, StaysSound};
@@ -50,10 +51,12 @@ pub fn begins_with_script<M: AliasMeaning>()
 
 /// *Settle* is the first item that exists of a queued event, a due timer, a layout that changes something and a round of the idle scripts that
 /// wait, and *Settle* again; nothing more is done where the main window is gone (after(n); the order is this host's own). Nothing else meets that
-/// equation, by whatever `update` that meets its own.
+/// equation, by whatever `update` that meets its own. So something meets the two equations, and all that meets them is one.
 pub fn settles()
     ensures equation { Settles }
     ensures only { OnlySettle }
+    ensures met { EquationsAreMet }
+    ensures one { OneSettle }
 {}
 
 /// Whatever meets the equations of `update` and *Settle* makes the same of an application as their jobs do: of one whose script runs, and of one that

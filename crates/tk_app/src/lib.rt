@@ -24,7 +24,7 @@ pub use laws::{
     settled_is_past, settles, settles_from_rest, settles_twice, started_is_past, stays_sound,
     updates, updates_idle_tasks,
 };
-pub use layout_laws::{lies_by_masters, lies_in_order};
+pub use layout_laws::{lies_by_masters, lies_in_order, lies_near, tells_whole};
 pub use shared::Shared;
 pub use size::Size;
 pub use state::{AppEnd, AppState};

@@ -13,8 +13,10 @@ mod Order
 mod Parts
 mod Passing
 mod PassesBySettle
+pub mod Ranges
 mod Relation
 mod Routing
+mod Sections
 mod Settling
 mod Slots
 mod Ways

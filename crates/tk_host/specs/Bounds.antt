@@ -1,4 +1,4 @@
--- Meaning. How many steps a stage takes at most.
+-- Meaning. How many steps a stage takes at most. `settled`, `after_event` and `Part` are words of steps, as in `Turns`.
 use Rattle.std.specs.Prelude.{ℕ, ◌+◌, ◌-◌, ◌≤◌, List, [], ◌∷◌, length, sum_by}
 use Rattle.std.specs.List.{AllByRecursion}
 use Rattle.tk_base.specs.declared.local_event.LocalEvent.{LocalEvent}

@@ -1,4 +1,5 @@
--- Meaning. The turns that are told of a call in which memory was refused, and the steps that are left then.
+-- Meaning. The turns that are told of a call in which memory was refused, and the steps that are left then. Of a `Part`, a word of steps, only its application
+-- is asked.
 use Rattle.std.specs.Prelude.{◌≡◌, ℕ, ◌+◌, ◌≤◌, List, ◌++◌, Option, option_map, slice_get}
 use Rattle.std.specs.Option.{option_map_or}
 use Rattle.tk_base.specs.declared.budget.Budget.{Budget}

@@ -1,4 +1,5 @@
--- Meaning. An application that nothing refills, as each of a session of the first format is: events grant it no step.
+-- Meaning. An application that nothing refills, as each of a session of the first format is: events grant it no step. `settled`, `started`, `passed` and `alone`
+-- are words of steps, by the code's jobs: they are those in `_by` by whatever meets the equations (laws `comes_by_settle` of tk_app, `alone_by_settle`).
 use Rattle.std.specs.Prelude.{◌≡◌, ℕ, List, [], ◌∷◌}
 use Rattle.tk_base.specs.declared.local_event.LocalEvent.{LocalEvent}
 use Rattle.tk_panel.specs.Deliver.{delivered_panel}

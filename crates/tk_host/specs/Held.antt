@@ -1,4 +1,6 @@
--- Meaning. What a host holds, and what it holds after a list of calls.
+-- Meaning. What a host holds, and what it holds after a list of calls. Words of steps: of what is under way in an application `Part`, `Work`, `Rests`, `added`
+-- and `stage_done`, and by the code's jobs `alone` and `passed`, which are `alone_by` and `passed_by` by whatever meets the equations of `update` and *Settle*
+-- (law `alone_by_settle`). Sections are said without them by `sections_by` (`Sections`), of what calls say: `given_by`, `phase_after` and `routed_by` here.
 use Rattle.std.specs.Prelude.{ℕ, ◌+◌, List, [], ◌∷◌, ◌++◌, map}
 use Rattle.tk_base.specs.declared.rect.Rect.{Rect}
 use Rattle.tk_base.specs.declared.local_event.LocalEvent.{LocalEvent}

@@ -1,4 +1,5 @@
--- Meaning. What can be looked at of the applications of a host beside their sections.
+-- Meaning. What can be looked at of the applications of a host beside their sections. `held_after` is by the code's jobs, as `Held` says: of an application by
+-- itself whatever meets the equations gives the same (law `alone_by_settle`).
 use Rattle.std.specs.Prelude.{ℕ, List, Option, None}
 use Rattle.tk_app.specs.Application.{Application}
 use Rattle.tk_app.specs.Inspection.{seen_in}

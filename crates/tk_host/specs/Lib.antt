@@ -10,6 +10,7 @@ pub mod Held
 pub mod Inspection
 pub mod Passes
 pub mod PassesByJob
+pub mod Ranges
 pub mod Ready
 pub mod Refusals
 pub mod Sections

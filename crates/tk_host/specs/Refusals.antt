@@ -1,4 +1,4 @@
--- Meaning. When the calls of a host are refused, and with which fault.
+-- Meaning. When the calls of a host are refused, and with which fault. Of a `Part`, a word of steps, only its application is asked.
 use Rattle.std.specs.Prelude.{IsTrue, ◌≡◌, ℕ, ◌<◌, ◌≤◌, ◌⊎◌, List, [], ◌∷◌, length, Any}
 use Rattle.tk_base.specs.Limits.{last_moment}
 use Rattle.tk_base.specs.Rect.{SharePixel}

@@ -1,4 +1,6 @@
--- Meaning. The turns of the calls that run applications.
+-- Meaning. The turns of the calls that run applications. Words of steps: `settled`, `started`, `after_event` and `passed`, by the code's jobs, which are those in
+-- `_by` by whatever meets the equations of `update` and *Settle* (laws `comes_by_settle` of tk_app, `alone_by_settle`); and `Part`, an application with what is
+-- under way in it, which `needs` so many steps.
 use Rattle.std.specs.Prelude.{ℕ, zero, suc, ◌+◌, ◌-◌, ◌==◌, List, [], ◌∷◌, ◌++◌, map, if◌then◌else◌}
 use Rattle.std.specs.List.{list_any}
 use Rattle.tk_base.specs.declared.local_event.LocalEvent.{LocalEvent}

@@ -53,7 +53,10 @@ impl<M: AliasService> Host<M> {
     ghost use Rattle.tk_route.specs.Lines.{Line, at, values};
     ghost use Rattle.tk_host.specs.Held.{AddApp, AdvanceTo, Call, End, LineAt, Start, after_advance, after_end, after_line, after_start, gone_to, held_after, turns_after, with_app};
     ghost use Rattle.tk_host.specs.Ready.{IsAt};
-    ghost use Rattle.tk_host.specs.Sections.{sections_after};
+    ghost use Rattle.tk_app.specs.Commands.{Update};
+    ghost use Rattle.tk_app.specs.Dispatch.{Action};
+    ghost use Rattle.tk_app.specs.Settle.{IsSettle, IsUpdate};
+    ghost use Rattle.tk_host.specs.Sections.{sections_after, sections_by};
     ghost use Rattle.tk_host.specs.Spec.{given};
     ghost use Rattle.tk_route.specs.Refusals.{IsFirst, NoneApplies};
     ghost use Rattle.tk_host.specs.Refusals.{IsRefusal, LeftBy, PhaseRefuses, RefusesApp, RefusesLine, RefusesMoment, RefusesSection, add_faults, line_faults, moment_faults, section_faults, start_faults};
@@ -231,13 +234,17 @@ impl<M: AliasService> Host<M> {
     }
 
     /// The section of the application in a slot, in bytes: its state and the steps left, what it wrote and its errors by their moments in
-    /// milliseconds, its window in pixels, and its timers and idle scripts. `Broken` (42), or `NoApp` (37) where the slot has none.
+    /// milliseconds, its window in pixels, and its timers and idle scripts. `Broken` (42), or `NoApp` (37) where the slot has none. After any list of
+    /// calls that weren't refused it is that of the application by itself, by whatever meets the equations of `update` and *Settle*.
     pub fn section(&self, slot: usize) -> Result<Vec<u8>, HostFault>
         ensures section { IfOk result (λ bytes. slice_get (map (λ part. section part.application) self.now.held.parts) slot ≡ Some bytes.items) }
         ensures unless { OnOk result (NoneApplies (RefusesSection self.now.held slot) section_faults) }
         ensures refused { IfErr result (IsRefusal (RefusesSection self.now.held slot) section_faults) }
         ensures history { (calls : List (Call M)) → self.now.held ≡ held_after M.answer calls →
             IfOk result (λ bytes. slice_get (sections_after M.answer calls) slot ≡ Some bytes.items) }
+        ensures sections { (calls : List (Call M)) → self.now.held ≡ held_after M.answer calls
+            → (update : Update) → IsUpdate update → (settle : Action) → IsSettle update settle →
+            IfOk result (λ bytes. slice_get (sections_by M.answer update settle calls) slot ≡ Some bytes.items) }
     {
         if let Phase::Lost = self.phase {
             return Err(HostFault::Refused(LineFault::Broken));

@@ -4,6 +4,7 @@ ghost use Rattle.tk_host.specs.Dues.{PassedByDues, TurnsByDues};
 ghost use Rattle.tk_host.specs.FirstFormat.{AloneWithoutRefills};
 ghost use Rattle.tk_host.specs.Passes.{PassesBySettle};
 ghost use Rattle.tk_host.specs.PassesByJob.{PassedPasses};
+ghost use Rattle.tk_host.specs.Ranges.{AloneInRange, RoutesInRange};
 ghost use Rattle.tk_host.specs.Refusals.{OneRefusal};
 ghost use Rattle.tk_host.specs.Sections.{EachByItself};
 ghost use Rattle.tk_host.specs.Used.{AllWithin, UsedAndLeft};
@@ -67,4 +68,16 @@ pub fn all_within<M: AliasMeaning>()
 /// event grants it nothing.
 pub fn alone_without_refills<M: AliasMeaning>()
     ensures { AloneWithoutRefills M.answer }
+{}
+
+/// Lines in range route events in range to each application, where the rectangles that applications came with are: buttons from 1 to 5, places from -32,767 to
+/// 65,535 from where a rectangle begins, and sizes up to 32,767.
+pub fn routes_in_range()
+    ensures { RoutesInRange }
+{}
+
+/// An application by itself, to which such events are routed, and whose rectangle has such a size: its windows lie near one another as long as it runs, and
+/// each event tells its places and its button.
+pub fn alone_in_range<M: AliasMeaning>()
+    ensures { AloneInRange M.answer }
 {}

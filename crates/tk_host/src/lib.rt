@@ -11,8 +11,9 @@ mod stages;
 
 pub use host::Host;
 pub use laws::{
-    all_within, alone_by_settle, alone_without_refills, bounded_stages, each_by_itself,
-    one_refusal, passed_by_dues, passed_passes, turns_by_dues, used_and_left,
+    all_within, alone_by_settle, alone_in_range, alone_without_refills, bounded_stages,
+    each_by_itself, one_refusal, passed_by_dues, passed_passes, routes_in_range, turns_by_dues,
+    used_and_left,
 };
 pub use phase::Phase;
 pub use tk_alias::{MAX_ALIASES, is_command_name};

@@ -4,4 +4,5 @@ pub mod Calls
 pub mod FirstFormat
 pub mod Output
 pub mod Play
+pub mod Ranges
 pub mod Sections

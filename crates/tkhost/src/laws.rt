@@ -4,6 +4,7 @@ ghost use Rattle.tkhost.specs.FirstFormat.{FirstFormatSections};
 ghost use Rattle.tk_app.specs.Commands.{Update};
 ghost use Rattle.tk_app.specs.Dispatch.{Action};
 ghost use Rattle.tkhost.specs.Play.{SameBytes};
+ghost use Rattle.tkhost.specs.Ranges.{SessionComesWhole, SessionInRange};
 
 use tk_host::AliasMeaning;
 
@@ -22,4 +23,11 @@ pub fn session_within<M: AliasMeaning>()
 /// and no rectangle moves.
 pub fn first_format_sections<M: AliasMeaning>()
     ensures { FirstFormatSections M.answer }
+{}
+
+/// What an accepted session routes to an application is in range: buttons, places and sizes. So each event tells its places and its button, whatever they are:
+/// no range of a field of an event leaves one out.
+pub fn session_in_range<M: AliasMeaning>()
+    ensures events { SessionInRange }
+    ensures whole { SessionComesWhole M.answer }
 {}

@@ -10,7 +10,7 @@ mod program;
 mod services;
 
 pub use input::{InputFault, read_input};
-pub use laws::{first_format_sections, same_bytes, session_within};
+pub use laws::{first_format_sections, same_bytes, session_in_range, session_within};
 pub use outcome::Outcome;
 pub use output::{WriteFault, write_whole};
 pub use playing::{PlayFault, filled, play, run_through};

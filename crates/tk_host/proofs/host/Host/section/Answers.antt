@@ -5,6 +5,7 @@ use Rattle.tk_app.specs.Part.{Part}
 use Rattle.tk_app.specs.Section.{section}
 use Rattle.tk_host.specs.Held.{Hosted}
 use Rattle.tk_host.proofs.History.{sections_of_held}
+use Rattle.tk_host.proofs.Sections.{sections_same}
 use Rattle.tk_host.proofs.host.Host.section.Goals as goal
 
 pub returns-clause-section : goal.returns-clause-section
@@ -16,3 +17,7 @@ returns-clause-section g c =
 pub returns-clause-history : goal.returns-clause-history
 returns-clause-history g c = λ calls held.
     ap (λ sections. slice_get sections c.args.slot) (sym (sections_of_held g.M.AliasMeaning.answer calls c.args.self.now.held held)) ∙ returns-clause-section g c
+
+pub returns-clause-sections : goal.returns-clause-sections
+returns-clause-sections g c = λ calls held update is_update settle meets.
+    ap (λ sections. slice_get sections c.args.slot) (sym (sections_same g.M.AliasMeaning.answer update is_update settle meets calls)) ∙ returns-clause-history g c calls held

@@ -1,0 +1,72 @@
+-- Meaning. The windows of an application lie near one another, whatever its scripts do: each ends within the greatest side of a rectangle, from its parent's
+-- corner. So no place of a window is too far off to be told (*Told*).
+use Rattle.std.specs.Prelude.{◌≡◌, ◌+◌, ◌*◌, ◌≤◌, ℕ, List, Some}
+use Rattle.std.specs.List.{AllByRecursion}
+use Rattle.tcl_interp.specs.Evaluation.{State, Outcome}
+use Rattle.tk_base.specs.Rect.{most_pixels}
+use Rattle.tk_base.specs.declared.local_event.LocalEvent.{LocalEvent}
+use Rattle.tk_screen.specs.Layout.{size_of}
+use Rattle.tk_screen.specs.Own.{Windowing}
+use Rattle.tk_tree.specs.Corners.{corner}
+use Rattle.tk_tree.specs.declared.window.Window.{Window}
+use Rattle.tk_tree.specs.Own.{IsSound, Tree, most_windows}
+use Rattle.tk_app.specs.Application.{Application, fresh}
+use Rattle.tk_app.specs.Commands.{Update, scripts_in}
+use Rattle.tk_app.specs.Dispatch.{Action, global_meaning}
+use Rattle.tk_app.specs.Items.{first_item}
+use Rattle.tk_app.specs.Moments.{delivered, settled_by, started_by}
+use Rattle.tk_app.specs.Ranges.{IsEventInRange, IsSize}
+use Rattle.tk_app.specs.Seen.{Meaning, Seen}
+use Rattle.tk_app.specs.Settle.{IsSettle, IsUpdate}
+use Rattle.tk_app.specs.Sound.{EndsWith, RunsWith}
+use Rattle.tk_app.specs.Spec.{Spec}
+
+-- a window ends within the greatest side of a rectangle, from its parent's corner
+abbrev pub EndsNear : Window → Type 0
+EndsNear window = (window.rectangle.x + window.rectangle.width ≤ most_pixels) × (window.rectangle.y + window.rectangle.height ≤ most_pixels)
+
+-- the windows are numbered as they were made, and each ends so, in a rectangle of this size
+pub record IsNear (tree : Tree) (size : ℕ × ℕ) : Type 0 where
+  pub sound : IsSound tree
+  pub size_fits : IsSize size.0 size.1
+  pub near : AllByRecursion EndsNear tree.windows
+
+abbrev pub AreNear : Windowing → Type 0
+AreNear own = IsNear own.tree (size_of own)
+
+-- ── whatever is done ──
+
+-- a script at global level leaves them so, by whatever meets the equation of `update`
+abbrev pub ScriptsKeepNear : Type 0
+ScriptsKeepNear = (update : Update) → IsUpdate update → (room : ℕ) (script : List ℕ) (state : State Seen) → AreNear state.shows.panel.windowing
+    → EndsWith AreNear (global_meaning (scripts_in update room) script state)
+
+-- and so does each item of what is to be done at a moment: *Dispatch* of an event, a timer, a layout, a round of idle scripts
+abbrev pub ItemsKeepNear : Type 0
+ItemsKeepNear = (update : Update) → IsUpdate update → (room : ℕ) (state : State Seen) (item : Outcome Seen) → AreNear state.shows.panel.windowing
+    → first_item (scripts_in update room) state ≡ Some item → EndsWith AreNear item
+
+-- the windows of an application lie so while it runs
+abbrev pub RunsNear : {M : Type 0} → Application M → Type 0
+RunsNear application = RunsWith AreNear application
+
+module _ {M : Type 0} (answer : M → Meaning) where
+  module _ (update : Update) (settle : Action) where
+    -- They do at first, where its rectangle has a size, once its script has run, once it was given an event in range, and once it has settled.
+    pub record StaysNear : Type 0 where
+      pub fresh : (spec : Spec M) → IsSize spec.width spec.height → RunsNear (fresh spec)
+      pub started : (moment : ℕ) (script : List ℕ) (application : Application M) → AreNear application.windowing
+          → RunsNear (started_by answer update settle moment script application)
+      pub delivered : (event : LocalEvent) (application : Application M) → IsEventInRange event → RunsNear application → RunsNear (delivered event application)
+      pub settled : (moment : ℕ) (application : Application M) → RunsNear application → RunsNear (settled_by answer settle moment application)
+
+  -- by whatever meets the equations of `update` and *Settle*
+  abbrev pub NearStays : Type 0
+  NearStays = (update : Update) → IsUpdate update → (settle : Action) → IsSettle update settle → StaysNear update settle
+
+-- ── corners ──
+
+-- from the corner of the application's rectangle a window begins within as many such sides as there can be windows
+abbrev pub CornersNear : Type 0
+CornersNear = (own : Windowing) (number : ℕ) → AreNear own
+    → ((corner number own.tree).x ≤ most_pixels * most_windows) × ((corner number own.tree).y ≤ most_pixels * most_windows)

@@ -12,8 +12,8 @@ use Rattle.tk_app.specs.Seen.{Seen}
 use Rattle.tcl_text.specs.Limits.{most_running}
 
 -- The windows of the state are numbered as they were made, each behind its parent, none above the next number, and there are at most as many as the limit.
--- An application's are so, from its beginning on (`StaysSound`), and of such windows it is known that their layout comes to rest; so the equations are of
--- these. What meets an equation in all states meets it in these.
+-- An application's are so, from its beginning on (`StaysSound`), and of such windows it is known that a layout of what was just laid out changes nothing; so the
+-- equations are of these. What meets an equation in all states meets it in these.
 abbrev pub IsSoundIn : State Seen → Type 0
 IsSoundIn state = IsSound state.shows.panel.windowing.tree
 

@@ -72,3 +72,8 @@ module _ {M : Type 0} (answer : M → Meaning) where
         → slice_get (specs_of plan.apps lists) slot ≡ Some spec → slice_get (specs_of other.apps others) other_slot ≡ Some spec → plan.end ≡ other.end
         → routed (rects_of plan.apps) (newest_first plan.events) slot ≡ routed (rects_of other.apps) (newest_first other.events) other_slot
         → slice_get (sections_in_by plan lists) slot ≡ slice_get (sections_in_by other others) other_slot
+
+-- what the program writes of a session, whose aliases its own services answer
+abbrev pub program_sections_by : Update → Action → Plan → List ℕ
+program_sections_by update settle plan =
+    sections_by (λ (service : Service). answer_of service.kind service.config) update settle plan (map services_in plan.apps)

@@ -5,7 +5,10 @@ ghost use Rattle.tk_route.specs.Fault.{number_of as number_of_fault};
 ghost use Rattle.tk_session.specs.Session.{Plan, IsSession, HasFault};
 ghost use Rattle.tk_route.specs.declared.fault.LineFault.{LineFault};
 ghost use Rattle.tkhost.specs.Output.{AppendsFront};
-ghost use Rattle.tkhost.specs.Play.{MakesServices};
+ghost use Rattle.tk_app.specs.Commands.{Update};
+ghost use Rattle.tk_app.specs.Dispatch.{Action};
+ghost use Rattle.tk_app.specs.Settle.{IsSettle, IsUpdate};
+ghost use Rattle.tkhost.specs.Play.{MakesServices, program_sections_by};
 ghost use Rattle.tkhost.specs.Sections.{program_sections};
 
 use crate::input::{InputFault, read_input};
@@ -22,7 +25,8 @@ use tk_session::{ServiceKind, SessionFault, read_session};
 const SLICE: u64 = 64;
 
 /// What the program does without arguments: reads a session, plays it with the closures that are made for its alias lines, at most 64 steps
-/// of an application at a time, and writes its sections. The first fault is the outcome.
+/// of an application at a time, and writes its sections. The first fault is the outcome. What its sections are rests, as of [`play`], on the two
+/// equations of `update` and *Settle* alone.
 pub fn run<R: Read, W: Write, F: AliasCode, K: Fn(ServiceKind, Text) -> F>(
     alloc: Global,
     reader: &mut R,
@@ -31,6 +35,12 @@ pub fn run<R: Read, W: Write, F: AliasCode, K: Fn(ServiceKind, Text) -> F>(
 ) -> Outcome
     requires make { K.IsAlwaysCallable make }
     requires services { MakesServices (K.post make) F.may_call F.may_reply }
+    ensures sections { (update : Update) → IsUpdate update → (settle : Action) → IsSettle update settle → result ≡ Outcome.Done → (plan : Plan)
+        × IfSome (R.remaining reader.old) (λ input. IsSession input plan)
+        × Appends (W.contents writer.old) (W.contents writer.new) (program_sections_by update settle plan) }
+    ensures front { (update : Update) → IsUpdate update → (settle : Action) → IsSettle update settle → result ≡ Outcome.Write → (plan : Plan)
+        × IfSome (R.remaining reader.old) (λ input. IsSession input plan)
+        × AppendsFront (W.contents writer.old) (W.contents writer.new) (program_sections_by update settle plan) }
     ensures done { result ≡ Outcome.Done → (plan : Plan)
         × IfSome (R.remaining reader.old) (λ input. IsSession input plan)
         × Appends (W.contents writer.old) (W.contents writer.new) (program_sections plan) }

@@ -1,10 +1,13 @@
-use Rattle.std.proofs.Common.{Err, refl, ap, subst}
+use Rattle.std.proofs.Common.{Err, refl, ap, map, subst}
+use Rattle.std.specs.Io.KnownBytes.{Appends}
 use Rattle.tk_alias.specs.declared.service.Service.{Service}
 use Rattle.tk_alias.specs.Services.{answer_of}
 use Rattle.tk_session.specs.Session.{IsSession}
 use Rattle.tkhost.specs.Output.{AppendsFront}
+use Rattle.tkhost.specs.Play.{sections_by, services_in}
 use Rattle.tkhost.specs.Sections.{sections_of}
 use Rattle.tkhost.proofs.Refusal.{all_read, told_fault}
+use Rattle.tkhost.proofs.Told.{sections_same}
 use Rattle.tkhost.proofs.program.run.Goals as goal
 
 pub returns-in-Err-Refused-clause-refused : goal.returns-in-Err-Refused-clause-refused
@@ -24,4 +27,27 @@ returns-in-Err-Write-clause-write g c = λ is.
       all_read (g.R.Read.remaining c.args.reader.now) (g.R.Read.remaining c.read_input.new.reader) c.in-Ok.input.items (λ input. IsSession input plan)
           c.in-Ok.ensures.bytes c.in-Ok.ensures.end said,
       front,
+    )
+
+-- the sections by the jobs are those by whatever meets the equations of `update` and *Settle*
+pub returns-in-Ok-play-clause-sections : goal.returns-in-Ok-play-clause-sections
+returns-in-Ok-play-clause-sections g c update is_update settle meets = λ is.
+    let plan = c.in-Ok-read_session.session in
+    let said = subst (λ input. IsSession input plan) c.as_slice.ensures.value c.in-Ok-read_session.ensures.answer in
+    let whole = subst (λ lists. Appends (g.W.Write.contents c.args.writer.now) (g.W.Write.contents c.play.new.writer) (sections_by (λ (service : Service). answer_of service.kind service.config) update settle plan lists))
+    c.in-Ok-services_of.ensures.services (c.in-Ok-play.ensures.sections update is_update settle meets) in (
+      plan,
+      all_read (g.R.Read.remaining c.args.reader.now) (g.R.Read.remaining c.read_input.new.reader) c.in-Ok.input.items (λ input. IsSession input plan)
+          c.in-Ok.ensures.bytes c.in-Ok.ensures.end said,
+      whole,
+    )
+
+pub returns-in-Err-Write-clause-front : goal.returns-in-Err-Write-clause-front
+returns-in-Err-Write-clause-front g c update is_update settle meets = λ is.
+    let (plan, read, front) = returns-in-Err-Write-clause-write g c is in (
+      plan,
+      read,
+      subst (λ bytes. AppendsFront (g.W.Write.contents c.args.writer.now) (g.W.Write.contents c.play.new.writer) bytes)
+          (sections_same (λ (service : Service). answer_of service.kind service.config) update is_update settle meets plan (map services_in plan.apps))
+          front,
     )

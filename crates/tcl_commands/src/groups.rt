@@ -1,13 +1,12 @@
-ghost use Rattle.std.specs.Prelude.{◌≡◌, ◌++◌, map, IfOk};
+ghost use Rattle.std.specs.Prelude.{◌≡◌, ◌++◌, IfOk};
 ghost use Rattle.std.specs.List.{list_any};
 ghost use Rattle.tcl_text.specs.Readings.{list_of};
 ghost use Rattle.tcl_commands.specs.Ahead.{FollowsGroup};
-ghost use Rattle.tcl_commands.specs.Groups.{group_named, group_of, groups_from, groups_of, has_body, advanced, has_more};
+ghost use Rattle.tcl_commands.specs.Groups.{group_named, group_of, groups_from, groups_of, has_body, has_more};
 
-use crate::items_left::ItemsLeft;
 use crate::listing::Listing;
 use std::alloc::{AllocError, Global};
-use tcl_text::{SplitFault, Text, TextList};
+use tcl_text::{ListItems, SplitFault, Text, TextList};
 
 /// A list of names of `foreach`, and the items of its list that are left (foreach(n)).
 #[derive(Drop)]
@@ -15,7 +14,7 @@ pub struct Group {
     /// The variables that take the items, one each in an iteration.
     pub names: TextList,
     /// The items of the iterations to come.
-    pub items: ItemsLeft,
+    pub items: ListItems,
 }
 
 /// The groups of a `foreach`, in the order of its words.
@@ -26,27 +25,8 @@ impl Listing<Group> {
     pub fn has_more(&self) -> bool
         ensures { result ≡ list_any has_more self.now }
     {
-        self.as_slice().iter().any(|group| 0 < group.items.len())
+        self.as_slice().iter().any(|group| group.items.has_more())
     }
-
-    /// The groups behind one more iteration: each has given an item to each of its names, or all that were left.
-    pub fn advanced(self, alloc: Global) -> Result<Groups, AllocError>
-        ensures { IfOk result (λ groups. groups ≡ map advanced self) }
-    {
-        let mut groups = Listing::new(alloc);
-        'iteration: for group in self.into_vec() {
-            groups.push(past_iteration(group))?;
-        }
-        Ok(groups)
-    }
-}
-
-fn past_iteration(group: Group) -> Group
-    ensures { result ≡ advanced group }
-{
-    let Group { names, items } = group;
-    let items = items.behind(names.len());
-    Group { names, items }
 }
 
 /// A list of items behind its names, or the error's text.
@@ -58,10 +38,7 @@ fn group_named(
     ensures { IfOk result (λ group. group ≡ group_named names (list_of items.now)) }
 {
     match items.list_items(alloc) {
-        Ok(items) => Ok(Ok(Group {
-            names,
-            items: ItemsLeft::all(items),
-        })),
+        Ok(items) => Ok(Ok(Group { names, items })),
         Err(SplitFault::BadList(fault)) => Ok(Err(fault.told(alloc)?)),
         Err(SplitFault::NoMemory) => Err(AllocError),
     }

@@ -6,7 +6,6 @@ mod arrays;
 mod branches;
 mod commands;
 mod groups;
-mod items_left;
 pub mod laws;
 mod links;
 mod listing;
@@ -20,7 +19,6 @@ pub use commands::{
     VariableCommand, call_variable_command, info_exists, upvar_command, variable_command,
 };
 pub use groups::{Group, Groups, foreach_groups, has_body};
-pub use items_left::ItemsLeft;
 pub use links::UPVAR_USAGE;
 pub use listing::Listing;
 pub use parameters::{Parameter, Parameters, parameters_in};

@@ -40,7 +40,15 @@ impl<T: Drop> Listing<T> {
         self.list.as_slice()
     }
 
-    pub(crate) fn into_vec(self) -> Vec<T>
+    /// These, in order.
+    pub fn of_vec(list: Vec<T>) -> Listing<T>
+        ensures { result ≡ list.items }
+    {
+        Listing { list }
+    }
+
+    /// All of them, in order, to be changed.
+    pub fn into_vec(self) -> Vec<T>
         ensures { result.items ≡ self }
     {
         let Listing { list } = self;

@@ -1,10 +1,11 @@
-ghost use Rattle.std.specs.Prelude.{◌≡◌, ◌<◌, length, drop, IfOk, Ok};
+ghost use Rattle.std.specs.Prelude.{◌≡◌, ◌<◌, length, drop, map, None, IfOk, OnOk, Ok};
 ghost use Rattle.tcl_vars.specs.Store.{with_variable};
+ghost use Rattle.tcl_commands.specs.Groups.{advanced};
 ghost use Rattle.tcl_control.specs.Assign.{done, on_set, first_item, assigned, groups_assigned};
 
 use std::alloc::{AllocError, Global};
-use tcl_commands::{Group, ItemsLeft};
-use tcl_text::Text;
+use tcl_commands::Group;
+use tcl_text::{ListItems, Text};
 use tcl_vars::{Scopes, SetFault};
 
 /// Sets a variable of a level, or gives the error's text.
@@ -27,61 +28,76 @@ pub fn set_one(
     }
 }
 
-/// The item at a place, or the empty text.
-#[tactic(auto, using(crate::proofs::AssignLemmas::item_there, crate::proofs::AssignLemmas::no_item_there))]
-fn item_at(alloc: Global, items: &ItemsLeft, at: usize) -> Result<Text, AllocError>
-    ensures { IfOk result (λ item. item ≡ first_item (drop at items.now)) }
+/// The first item that is left, taken, or the empty text.
+#[tactic(auto, using(crate::proofs::AssignLemmas::first_taken))]
+fn next_value(alloc: Global, items: &mut ListItems) -> Result<Text, AllocError>
+    ensures value { IfOk result (λ value. value ≡ first_item items.old) }
+    ensures left { OnOk result (items.new ≡ drop 1 items.old) }
 {
-    match items.get(alloc, at)? {
+    match items.take_first(alloc)? {
         Some(item) => Ok(item),
         None => Ok(Text::empty()),
     }
 }
 
-/// The place behind an item, where there is one.
-fn behind_item(items: &ItemsLeft, at: usize) -> usize
-    ensures { drop result items.now ≡ drop 1 (drop at items.now) }
-{
-    if at < items.len() { at + 1 } else { at }
-}
-
-/// Gives names the items that are left.
+/// Gives names the items that are left, and takes these.
 fn assign_names(
     alloc: Global,
     scopes: &mut Scopes,
     frame: usize,
     names: &[Text],
-    items: &ItemsLeft,
+    items: &mut ListItems,
 ) -> Result<Option<Text>, AllocError>
     requires { frame < length scopes.old }
-    ensures set { IfOk result (λ refused. record { store = scopes.new; refused = refused } ≡ assigned frame names.now items.now scopes.old) }
+    ensures set { IfOk result (λ refused. record { store = scopes.new; refused = refused } ≡ assigned frame names.now items.old scopes.old) }
+    ensures left { IfOk result (λ refused. refused ≡ None → items.new ≡ drop (length names.now) items.old) }
     ensures levels { length scopes.new ≡ length scopes.old }
 {
-    let mut at = 0;
     for name in names {
-        let value = item_at(alloc, items, at)?;
-        match set_one(alloc, scopes, frame, name, value)? {
-            Some(text) => return Ok(Some(text)),
-            None => at = behind_item(items, at),
+        let value = next_value(alloc, items)?;
+        if let Some(text) = set_one(alloc, scopes, frame, name, value)? {
+            return Ok(Some(text));
         }
     }
     Ok(None)
 }
 
-/// Gives the names of groups the items of an iteration.
+/// Gives the names of a group the items of an iteration, and takes these.
+fn assign_group(
+    alloc: Global,
+    scopes: &mut Scopes,
+    frame: usize,
+    group: &mut Group,
+) -> Result<Option<Text>, AllocError>
+    requires { frame < length scopes.old }
+    ensures set { IfOk result (λ refused. record { store = scopes.new; refused = refused }
+        ≡ assigned frame group.old.names group.old.items scopes.old) }
+    ensures left { IfOk result (λ refused. refused ≡ None → group.new ≡ advanced group.old) }
+    ensures levels { length scopes.new ≡ length scopes.old }
+{
+    assign_names(
+        alloc,
+        scopes,
+        frame,
+        group.names.as_slice(),
+        &mut group.items,
+    )
+}
+
+/// Gives the names of groups the items of an iteration, and takes these.
 pub fn assign_groups(
     alloc: Global,
     scopes: &mut Scopes,
     frame: usize,
-    groups: &[Group],
+    groups: &mut [Group],
 ) -> Result<Option<Text>, AllocError>
     requires { frame < length scopes.old }
-    ensures set { IfOk result (λ refused. record { store = scopes.new; refused = refused } ≡ groups_assigned frame groups.now scopes.old) }
+    ensures set { IfOk result (λ refused. record { store = scopes.new; refused = refused } ≡ groups_assigned frame groups.old scopes.old) }
+    ensures left { IfOk result (λ refused. refused ≡ None → groups.new ≡ map advanced groups.old) }
     ensures levels { length scopes.new ≡ length scopes.old }
 {
-    for group in groups {
-        let refused = assign_names(alloc, scopes, frame, group.names.as_slice(), &group.items)?;
-        if let Some(text) = refused {
+    for group in groups.iter_mut() {
+        if let Some(text) = assign_group(alloc, scopes, frame, group)? {
             return Ok(Some(text));
         }
     }

@@ -92,9 +92,10 @@ pub fn items_tested(
     if !groups.has_more() {
         return Ok(Verdict::NoMore);
     }
-    match assign_groups(alloc, scopes, frame, groups.as_slice())? {
+    let mut groups = groups.into_vec();
+    match assign_groups(alloc, scopes, frame, groups.as_mut_slice())? {
         Some(text) => Ok(Verdict::Fails(text)),
-        None => Ok(Verdict::More(groups.advanced(alloc)?)),
+        None => Ok(Verdict::More(Groups::of_vec(groups))),
     }
 }
 

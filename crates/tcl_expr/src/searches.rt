@@ -8,9 +8,9 @@ ghost use Rattle.tcl_text.specs.Readings.{list_of};
 use crate::fault::EvalFault;
 use std::alloc::{AllocError, Global};
 use std::marker::Model;
-use tcl_text::{Text, TextList};
+use tcl_text::{SplitFault, Text, TextList};
 
-/// From how many bytes on a list is long: shorter ones are read at each search.
+/// From how many bytes on a list is long: shorter ones are read at each search, and so are long ones at the first few.
 const LONG: usize = 256;
 
 /// After how many searches in a row a long list is put in order, which takes as long as a few of them.
@@ -99,22 +99,19 @@ impl Searches {
         }
     }
 
-    /// The list was searched, and has these items.
-    fn keep(&mut self, alloc: Global, list: &Text, items: TextList) -> Result<(), AllocError>
-        requires { list_of list.now ≡ Ok items }
-    {
+    /// Keeps this of the list that was searched last.
+    fn keep(&mut self, alloc: Global, searched: Searched) -> Result<(), AllocError> {
+        self.last = Some(Box::new(alloc, searched)?);
+        Ok(())
+    }
+
+    /// The list was searched so many times in a row.
+    fn count(&mut self, alloc: Global, list: &Text, times: u32) -> Result<(), AllocError> {
         if list.as_str().len() < LONG {
             return Ok(());
         }
-        let times = self.times(list);
         let list = list.copy()?;
-        let searched = if times < MANY {
-            Searched::Times(list, times + 1)
-        } else {
-            Searched::InOrder(OrderedList::new(list, items))
-        };
-        self.last = Some(Box::new(alloc, searched)?);
-        Ok(())
+        self.keep(alloc, Searched::Times(list, times))
     }
 
     /// Whether an item of the list that the second text is equals the first.
@@ -124,10 +121,28 @@ impl Searches {
         if let Some(found) = self.found(item, list) {
             return Ok(found);
         }
+        let times = self.times(list);
+        if times < MANY {
+            let found = read_for(alloc, item, list)?;
+            self.count(alloc, list, times + 1)?;
+            return Ok(found);
+        }
         let items = list.split_list(alloc)?;
         let found = is_among(item, items.as_slice());
-        self.keep(alloc, list, items)?;
+        let ordered = OrderedList::new(list.copy()?, items);
+        self.keep(alloc, Searched::InOrder(ordered))?;
         Ok(found)
+    }
+}
+
+/// Whether an item of the list equals the text. The list is read once, and nothing of it is kept.
+fn read_for(alloc: Global, item: &Text, list: &Text) -> Result<bool, EvalFault>
+    ensures { IsEvaluatedAs result (values.is_in item.now list.now) }
+{
+    match list.has_item(alloc, item) {
+        Ok(found) => Ok(found),
+        Err(SplitFault::BadList(fault)) => Err(EvalFault::BadList(fault)),
+        Err(SplitFault::NoMemory) => Err(EvalFault::NoMemory),
     }
 }
 

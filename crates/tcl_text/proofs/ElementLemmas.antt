@@ -5,7 +5,8 @@ use Rattle.std.proofs.lemmas.Bool.{cases_Bool, cases_lt, eqb-true, both_ways, fa
 use Rattle.std.proofs.lemmas.List.{drop_more, drop_all, length-drop}
 use Rattle.tcl_text.specs.Backslash.{is_white, kind_of, escape, byte_mark, escape_mark, marks_past, marks, Mark}
 use Rattle.tcl_text.specs.Readings.{ListPlace, between, in_braces, in_quotes, in_bare, closed, place_after, Reading, onto, begun, with_mark, reading, elements, skip_white, list_of}
-use Rattle.tcl_text.specs.Splitting.{GivesBehind, GivesItem, GivesElement, IsAtEnd, Unescapes, begins_bare_element, ends, ended, is_behind_element, items_before}
+use Rattle.tcl_text.specs.ListString.{items_read}
+use Rattle.tcl_text.specs.Splitting.{GivesBehind, GivesItem, GivesElement, IsAtEnd, IsBehind, ReadsTo, Unescapes, begins_bare_element, ends, ended, is_behind_element, items_before}
 use Rattle.std.specs.Str.{IsCharBoundary}
 use Rattle.std.proofs.lemmas.Str.{IsCharBoundary-from_drop}
 use Rattle.tcl_text.proofs.IntegerReading.{white_low}
@@ -32,7 +33,7 @@ first_mark c cs = elim (cases_Bool (nat_eq c 92)) [
   | inr other ↦ record { mark = byte_mark c; others = marks_past 0 cs; cut = rw other refl; kind = refl }
 ]
 
-white_kind : (c : ℕ) → is_white c ≡ true → kind_of c ≡ White
+pub white_kind : (c : ℕ) → is_white c ≡ true → kind_of c ≡ White
 unfolding kind_of
 white_kind c white = rw white refl
 
@@ -72,25 +73,36 @@ items_before-ended : (item : List ℕ) (read : Result (List (List ℕ)) ListFaul
 items_before-ended item (Ok items) = ap (λ (bytes : List ℕ). let list : Result (List (List ℕ)) ListFault = Ok (bytes ∷ items) in list) (append-nil item)
 items_before-ended item (Err f) = refl
 
--- a list that begins with an element, by how it is read from a place on
-begins_list : (place : ListPlace) (text behind : List ℕ) (r : Result (List ℕ × Bor (List ℕ)) SplitFault) → list_of text ≡ elements (begun (reading place (marks behind))) → length behind < length text → GivesItem place behind r → GivesElement text r
-begins_list place text behind (Ok r) begins shorter h =
-    (omega (arith, h.0), begins ∙ ap (λ read. elements (begun read)) h.1 ∙ items_before-ended r.0 (list_of r.1.now))
-begins_list place text behind (Err (BadList f)) begins shorter h = begins ∙ ap (λ read. elements (begun read)) h
-begins_list place text behind (Err NoMemory) begins shorter h = tt
+-- what stands behind a place
+behind_is : (text behind : List ℕ) (n : ℕ) → n ≤ length text → behind ≡ drop n text → IsBehind text behind
+behind_is text behind n within is =
+    let count : length text - length behind ≡ n = omega (arith, ap length is, length-drop n text) in
+    is ∙ ap (λ i. drop i text) (sym count)
+
+behind_more : (c : ℕ) (cs behind : List ℕ) → length behind ≤ length cs → IsBehind cs behind → IsBehind (c ∷ cs) behind
+behind_more c cs behind within h =
+    let count : suc (length cs) - length behind ≡ suc (length cs - length behind) = omega arith in
+    h ∙ ap (λ i. drop i (c ∷ cs)) (sym count)
+
+-- a list that begins with an element, by how it is read from behind its first byte on
+begins_list : (place : ListPlace) (c : ℕ) (cs : List ℕ) (r : Result (List ℕ × Bor (List ℕ)) SplitFault) → list_of (c ∷ cs) ≡ elements (begun (reading place (marks cs))) → GivesItem place cs r → GivesElement (c ∷ cs) r
+begins_list place c cs (Ok r) begins h =
+    (omega (arith, h.0), begins ∙ ap (λ read. elements (begun read)) h.1 ∙ items_before-ended r.0 (list_of r.1.now), behind_more c cs r.1.now h.0 h.2)
+begins_list place c cs (Err (BadList f)) begins h = begins ∙ ap (λ read. elements (begun read)) h
+begins_list place c cs (Err NoMemory) begins h = tt
 
 -- an element in braces, in quotes, or bare
 pub gives_braced : (text slice : List ℕ) (r : Result (List ℕ × Bor (List ℕ)) SplitFault) → slice ≡ drop 1 text → 0 < length text → kind_of (get_or text 0 0) ≡ OpenBrace → GivesItem (in_braces 0) slice r → GivesElement text r
 unfolding list_of
 gives_braced [] slice r is some kind h = absurd (omega arith)
 gives_braced (c ∷ cs) slice r is some kind h =
-    begins_list (in_braces 0) (c ∷ cs) cs r (ap elements (reading_kind between OpenBrace c cs (λ e. cc) kind)) (omega arith) (subst (λ xs. GivesItem (in_braces 0) xs r) is h)
+    begins_list (in_braces 0) c cs r (ap elements (reading_kind between OpenBrace c cs (λ e. cc) kind)) (subst (λ xs. GivesItem (in_braces 0) xs r) is h)
 
 pub gives_quoted : (text slice : List ℕ) (r : Result (List ℕ × Bor (List ℕ)) SplitFault) → slice ≡ drop 1 text → 0 < length text → kind_of (get_or text 0 0) ≡ Quote → GivesItem in_quotes slice r → GivesElement text r
 unfolding list_of
 gives_quoted [] slice r is some kind h = absurd (omega arith)
 gives_quoted (c ∷ cs) slice r is some kind h =
-    begins_list in_quotes (c ∷ cs) cs r (ap elements (reading_kind between Quote c cs (λ e. cc) kind)) (omega arith) (subst (λ xs. GivesItem in_quotes xs r) is h)
+    begins_list in_quotes c cs r (ap elements (reading_kind between Quote c cs (λ e. cc) kind)) (subst (λ xs. GivesItem in_quotes xs r) is h)
 
 -- an element may end at a place
 behind_place : (text : List ℕ) (at : ℕ) → (at < length text → is_white (get_or text at 0) ≡ true) → is_behind_element (drop at text) ≡ true
@@ -115,24 +127,39 @@ bare_begins c cs bare =
 white_no_bare : (c : ℕ) → begins_bare_element (kind_of c) ≡ true → is_white c ≡ false
 white_no_bare c bare = false_from_ne_true (is_white c) (λ white. let e : false ≡ true = sym (ap begins_bare_element (white_kind c white)) ∙ bare in absurd cc)
 
-pub gives_bare : (text item : List ℕ) (at : ℕ) (rest : Bor (List ℕ)) → 0 < length text → begins_bare_element (kind_of (get_or text 0 0)) ≡ true → Unescapes false text item at → IsAtEnd false text at → rest.now ≡ drop at text → GivesElement text (Ok (item, rest))
+-- an item in front that was read so stands before the list behind it
+pub bare_list : (text item : List ℕ) (at : ℕ) → 0 < length text → begins_bare_element (kind_of (get_or text 0 0)) ≡ true → ReadsTo in_bare text at item in_bare → IsAtEnd false text at → list_of text ≡ items_before (item ∷ []) (list_of (drop at text))
 unfolding list_of
-gives_bare [] item at rest some bare h end is = absurd (omega arith)
-gives_bare (c ∷ cs) item zero rest some bare h end is = absurd (both_ways (is_white c) (white_no_bare c bare) (end some))
-gives_bare (c ∷ cs) item (suc n) rest some bare h end is =
+bare_list [] item at some bare reads end = absurd (omega arith)
+bare_list (c ∷ cs) item zero some bare reads end = absurd (both_ways (is_white c) (white_no_bare c bare) (end some))
+bare_list (c ∷ cs) item (suc n) some bare reads end =
     let text = c ∷ cs in
-    let behind : reading in_bare (marks (drop (suc n) text)) ≡ ended (list_of rest.now) =
-    reading_bare (drop (suc n) text) (behind_place text (suc n) end) ∙ ap (λ xs. ended (list_of xs)) (sym is)
-    in (
-      omega (arith, ap length is, length-drop (suc n) text),
-      ap elements (bare_begins c cs bare) ∙ ap (λ read. elements (begun read)) (h.reads ∙ ap (onto item) behind) ∙ items_before-ended item (list_of rest.now),
-    )
+    ap elements (bare_begins c cs bare)
+    ∙ ap (λ read. elements (begun read)) (reads ∙ ap (onto item) (reading_bare (drop (suc n) text) (behind_place text (suc n) end)))
+    ∙ items_before-ended item (list_of (drop (suc n) text))
+
+pub gives_bare : (text item : List ℕ) (at : ℕ) (rest : Bor (List ℕ)) → 0 < length text → begins_bare_element (kind_of (get_or text 0 0)) ≡ true → Unescapes false text item at → IsAtEnd false text at → rest.now ≡ drop at text → GivesElement text (Ok (item, rest))
+gives_bare text item at rest some bare h end is = (
+  shorter at end h.fits is,
+  bare_list text item at some bare h.reads end ∙ ap (λ xs. items_before (item ∷ []) (list_of xs)) (sym is),
+  behind_is text rest.now at h.fits is,
+)
+  where
+    black : is_white (get_or text 0 0) ≡ false
+    black = white_no_bare (get_or text 0 0) bare
+
+    shorter : (at : ℕ) → IsAtEnd false text at → at ≤ length text → rest.now ≡ drop at text → length rest.now < length text
+    shorter zero end fits is = absurd (both_ways (is_white (get_or text 0 0)) black (end some))
+    shorter (suc n) end fits is = omega (arith, ap length is, length-drop (suc n) text)
 
 -- ── closing braces and quotes ──
 
-pub gives_behind : (text slice : List ℕ) (at : ℕ) (behind : Bor (List ℕ)) → behind.now ≡ drop (at + 1) text → slice ≡ behind.now → is_behind_element slice ≡ true → GivesBehind text at (Some behind)
-gives_behind text slice at behind is same ends =
-    (is, reading_closed (drop (at + 1) text) (ap is_behind_element (sym is) ∙ ap is_behind_element (sym same) ∙ ends) ∙ ap (λ rest. ended (list_of rest)) (sym is))
+pub gives_behind : (text slice : List ℕ) (at : ℕ) (behind : Bor (List ℕ)) → at < length text → behind.now ≡ drop (at + 1) text → slice ≡ behind.now → is_behind_element slice ≡ true → GivesBehind text at (Some behind)
+gives_behind text slice at behind inside is same ends = (
+  is,
+  reading_closed (drop (at + 1) text) (ap is_behind_element (sym is) ∙ ap is_behind_element (sym same) ∙ ends) ∙ ap (λ rest. ended (list_of rest)) (sym is),
+  behind_is text behind.now (at + 1) (omega arith) is,
+)
 
 pub gives_extra : (text slice : List ℕ) (at : ℕ) → slice ≡ drop (at + 1) text → is_behind_element slice ≡ false → GivesBehind text at None
 gives_extra text slice at is more = reading_extra (drop (at + 1) text) (ap is_behind_element (sym is) ∙ more)
@@ -140,7 +167,7 @@ gives_extra text slice at is more = reading_extra (drop (at + 1) text) (ap is_be
 -- an item that was closed, and what stands behind it
 closed_item : (place : ListPlace) (text item : List ℕ) (at : ℕ) (behind : Bor (List ℕ)) → at < length text → reading place (marks text) ≡ onto item (reading closed (marks (drop (at + 1) text))) → GivesBehind text at (Some behind) → GivesItem place text (Ok (item, behind))
 closed_item place text item at behind inside closing h =
-    (omega (arith, ap length h.0, length-drop (at + 1) text), closing ∙ ap (onto item) h.1)
+    (omega (arith, ap length h.0, length-drop (at + 1) text), closing ∙ ap (onto item) h.1, h.2)
 
 closed_extra : (place : ListPlace) (text item : List ℕ) (at : ℕ) → reading place (marks text) ≡ onto item (reading closed (marks (drop (at + 1) text))) → GivesBehind text at None → reading place (marks text) ≡ Err ExtraCharacters
 closed_extra place text item at closing h = closing ∙ ap (onto item) h
@@ -204,7 +231,7 @@ skip_white_black (c ∷ cs) some = at (is_white c) refl (skip_white_black cs) so
     at true is others some = others some
     at false is others some = is
 
-list_of-behind : (c : ℕ) (cs : List ℕ) → is_white c ≡ true → list_of (c ∷ cs) ≡ list_of cs
+pub list_of-behind : (c : ℕ) (cs : List ℕ) → is_white c ≡ true → list_of (c ∷ cs) ≡ list_of cs
 unfolding list_of
 list_of-behind c cs white = ap elements (reading_kind between White c cs (λ e. cc) (white_kind c white))
 
@@ -279,3 +306,24 @@ pub SplitsTo-end : (text : List ℕ) (items : List (List ℕ)) (rest : List ℕ)
 unfolding list_of marks
 SplitsTo-end text items [] h none = sym h.reads ∙ ap (λ (zs : List (List ℕ)). let list : Result (List (List ℕ)) ListFault = Ok zs in list) (append-nil items)
 SplitsTo-end text items (c ∷ cs) h none = absurd (omega arith)
+
+-- ── a list that begins with no white space has an item ──
+
+begun_some : (r : Reading) (items : List (List ℕ)) → elements (begun r) ≡ Ok items → 0 < length items
+begun_some (Ok r) items is = subst (λ (read : Result (List (List ℕ)) ListFault). 0 < length (items_read read)) is (omega arith)
+begun_some (Err f) items is = absurd cc
+
+pub some_item : (text : List ℕ) (items : List (List ℕ)) → 0 < length text → is_white (get_or text 0 0) ≡ false → list_of text ≡ Ok items → 0 < length items
+unfolding list_of
+some_item [] items some black is = absurd (omega arith)
+some_item (c ∷ cs) items some black is =
+    let h = first_mark c cs in
+    at h.mark.kind h.mark h.others (λ white. both_ways (is_white c) black (told c White (sym h.kind ∙ white))) (ap (λ ms. elements (reading between ms)) (sym h.cut) ∙ is)
+  where
+    at : (k : ByteKind) (m : Mark) (ms : List Mark) → k ≢ White → elements (with_mark between k m (reading (place_after between k) ms)) ≡ Ok items → 0 < length items
+    at White m ms other is = absurd (other refl)
+    at OpenBrace m ms other is = begun_some (reading (in_braces 0) ms) items is
+    at CloseBrace m ms other is = begun_some (onto m.meant (reading in_bare ms)) items is
+    at Quote m ms other is = begun_some (reading in_quotes ms) items is
+    at Backslash m ms other is = begun_some (onto m.meant (reading in_bare ms)) items is
+    at Other m ms other is = begun_some (onto m.meant (reading in_bare ms)) items is

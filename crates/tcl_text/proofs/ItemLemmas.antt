@@ -1,13 +1,19 @@
--- An item of a list by its number.
-use Rattle.std.proofs.Common.{◌≡◌, ◌∙◌, ℕ, zero, suc, ◌+◌, List, [], ◌∷◌, take, drop, slice_get, Some, ap, sym}
-use Rattle.std.proofs.lemmas.List.{drop-take}
+-- The items that are left of a list that is kept.
+use Rattle.std.proofs.Common.{◌≡◌, ℕ, ◌+◌, ◌-◌, ◌<◌, ◌≤◌, nat_lt, List, [], ◌∷◌, take, drop, length, get_or, arith, ap, sym, ◌∙◌, inl, inr}
+use Rattle.std.proofs.lemmas.Bool.{cases_lt, lt-ltb, le-ltb}
+use Rattle.std.proofs.lemmas.List.{drop_all, drop_more, length-drop}
+use Rattle.tcl_text.proofs.KeptItems.{one_item}
 
-first_taken : {X : Type 0} (xs : List X) (n : ℕ) (x : X) → take 1 (drop n xs) ≡ x ∷ [] → slice_get xs n ≡ Some x
-first_taken [] zero x e = search
-first_taken [] (suc n) x e = search
-first_taken (y ∷ ys) zero x e = ap (λ l. slice_get l 0) e
-first_taken (y ∷ ys) (suc n) x e = first_taken ys n x e
+-- the first of them, by what is taken between its place and the next
+pub first_kept : (items : List (List ℕ)) (n : ℕ) (item : List ℕ) → n < length items → drop n (take (n + 1) items) ≡ item ∷ [] → drop n items ≡ item ∷ drop (n + 1) items
+first_kept items n item inside is =
+    drop_more items n [] inside ∙ ap (λ x. x ∷ drop (n + 1) items) (ap (λ (xs : List (List ℕ)). get_or xs 0 []) (sym (one_item items n inside) ∙ is))
 
--- what is taken between a place and the next is the item there
-pub item_there : {X : Type 0} (xs : List X) (n : ℕ) (x : X) → drop n (take (n + 1) xs) ≡ x ∷ [] → slice_get xs n ≡ Some x
-item_there xs n x e = first_taken xs n x (sym (drop-take n 1 xs) ∙ e)
+pub none_kept : (items : List (List ℕ)) (n : ℕ) → length items ≤ n → drop n items ≡ []
+none_kept items n past = drop_all n items past
+
+pub more_kept : (items : List (List ℕ)) (n : ℕ) → nat_lt n (length items) ≡ nat_lt 0 (length (drop n items))
+more_kept items n = elim (cases_lt n (length items)) [
+  | inl inside ↦ lt-ltb n (length items) inside ∙ sym (lt-ltb 0 (length (drop n items)) (omega (arith, length-drop n items, inside)))
+  | inr past ↦ le-ltb n (length items) past ∙ sym (ap (λ (xs : List (List ℕ)). nat_lt 0 (length xs)) (none_kept items n past))
+]

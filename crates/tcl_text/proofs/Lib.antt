@@ -27,6 +27,8 @@ pub mod AsciiMarks
 pub mod KeptViews
 pub mod KeptSteps
 mod ItemLemmas
+pub mod SearchLemmas
+pub mod CursorLemmas
 pub mod KeptItems
 pub mod KeptGrown
 pub mod SortLemmas
@@ -40,3 +42,4 @@ pub mod CommandExamples
 pub mod LengthLemmas
 pub mod SeparatorLemmas
 pub mod GlobPieces
+pub mod GlobPlaces

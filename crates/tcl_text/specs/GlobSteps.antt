@@ -1,10 +1,10 @@
 -- Steps. What the steps of a glob search say to one another.
-use Rattle.std.specs.Prelude.{◌≡◌, ◌≢◌, ◌+◌, ◌<◌, ◌≤◌, ℕ, Bool, not, ◌||◌, ◌==◌, true, List, [], ◌∷◌, take, drop, length}
+use Rattle.std.specs.Prelude.{◌≡◌, ◌≢◌, ◌+◌, ◌<◌, ◌≤◌, ◌⊎◌, ℕ, Bool, not, ◌||◌, ◌&&◌, ◌==◌, true, false, List, [], ◌∷◌, ◌++◌, take, drop, length, get_or, slice_index}
 use Rattle.std.specs.List.{list_all}
 use Rattle.std.specs.Str.{chars}
 use Rattle.memchr.specs.Find.{OccursAt}
 use Rattle.tcl_text.specs.Bytes.{star, question_mark, open_bracket, backslash_sign}
-use Rattle.tcl_text.specs.Glob.{GlobMatches}
+use Rattle.tcl_text.specs.Glob.{in_class, AllowsFirst, GlobMatches}
 
 -- the pattern begins with a part for one character, and not with `*`
 abbrev pub HasPart : List ℕ → Type 0
@@ -46,3 +46,39 @@ pub record PassesPlain (pattern rest : List ℕ) : Type 0 where
   pub passed : ℕ
   pub at : chars rest ≡ drop passed (chars pattern)
   pub plain : list_all is_plain (take passed (chars pattern)) ≡ true
+
+-- left is what stands in the text behind so many characters, and the pattern matches at none of the places before it
+pub record IsBehindDead (pattern text left : List ℕ) : Type 0 where
+  pub passed : ℕ
+  pub at : left ≡ drop passed text
+  pub none : (place : ℕ) → place < passed → GlobMatches pattern (drop place text) → ⊥
+
+-- places that are tried at once live or are dead. The dead ones are such that the pattern doesn't match there, whatever stands behind the window
+pub record AreDead (pattern window : List ℕ) (alive : List Bool) : Type 0 where
+  pub none : (place : ℕ) → place < length alive → get_or alive place false ≡ false → (behind : List ℕ) → GlobMatches pattern (drop place (window ++ behind)) → ⊥
+
+-- those places still live that lived, and for which the test holds
+abbrev pub Keeps : (ℕ → Bool) → List Bool → List Bool → Type 0
+Keeps test before after = (place : ℕ) → place < length before → get_or after place false ≡ (get_or before place false && test place)
+
+-- those places alone are dead that were dead, or whose byte isn't the character
+abbrev pub KeepsEqual : ℕ → List ℕ → List Bool → List Bool → Type 0
+KeepsEqual wanted bytes before after =
+    (place : ℕ) → place < length before → get_or after place false ≡ false → (get_or before place false ≡ false) ⊎ (slice_index bytes place ≢ wanted)
+
+-- those places alone are dead that were dead, or whose byte the pattern's first part doesn't allow
+abbrev pub KeepsAllowed : List ℕ → List ℕ → List Bool → List Bool → Type 0
+KeepsAllowed pattern bytes before after =
+    (place : ℕ) → place < length before → get_or after place false ≡ false
+    → (get_or before place false ≡ false) ⊎ ((rest : List ℕ) → AllowsFirst pattern (slice_index bytes place) rest → ⊥)
+
+-- what is open was open, and its byte isn't from low to high
+abbrev pub Closes : ℕ → ℕ → List ℕ → List Bool → List Bool → Type 0
+Closes low high bytes before after =
+    (place : ℕ) → place < length before → get_or after place false ≡ true
+    → (get_or before place false ≡ true) × ((slice_index bytes place < low) ⊎ (high < slice_index bytes place))
+
+-- what is open has a byte that the class doesn't have
+abbrev pub IsOutside : List ℕ → List ℕ → List Bool → Type 0
+IsOutside class bytes open_places =
+    (place : ℕ) → place < length open_places → get_or open_places place false ≡ true → in_class class (slice_index bytes place) ≡ false

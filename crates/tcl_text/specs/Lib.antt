@@ -25,4 +25,8 @@ pub mod AsciiMarks
 pub mod TextForm
 pub mod ListString
 pub mod ItemsForm
+pub mod Element
+pub mod Searching
+pub mod SearchSteps
+pub mod ListCursor
 pub mod One

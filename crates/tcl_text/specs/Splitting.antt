@@ -1,5 +1,5 @@
 -- Steps. What the steps of splitting a list say, in the words of the readings.
-use Rattle.std.specs.Prelude.{◌≡◌, ℕ, ◌+◌, ◌<◌, ◌≤◌, ◌==◌, ◌⊎◌, IsUtf8, Bool, true, false, List, [], ◌∷◌, ◌++◌, take, drop, length, slice_index, Option, Some, None, Result, Ok, Err, ⊤}
+use Rattle.std.specs.Prelude.{◌≡◌, ℕ, ◌+◌, ◌-◌, ◌<◌, ◌≤◌, ◌==◌, ◌⊎◌, IsUtf8, Bool, true, false, List, [], ◌∷◌, ◌++◌, take, drop, length, slice_index, Option, Some, None, Result, Ok, Err, ⊤}
 use Rattle.std.specs.Borrow.{Bor}
 use Rattle.tcl_text.specs.Backslash.{is_white, marks}
 use Rattle.tcl_text.specs.Bytes.{quote, backslash_sign, close_brace}
@@ -75,20 +75,24 @@ abbrev pub ended : Result (List (List ℕ)) ListFault → Reading
 ended (Ok items) = Ok ([], items)
 ended (Err fault) = Err fault
 
+-- these bytes are what stands behind a place of the text
+abbrev pub IsBehind : List ℕ → List ℕ → Type 0
+IsBehind text behind = behind ≡ drop (length text - length behind) text
+
 -- behind a closing byte an element ends, or something is too many
 abbrev pub GivesBehind : List ℕ → ℕ → Option (Bor (List ℕ)) → Type 0
-GivesBehind text at (Some behind) = (behind.now ≡ drop (at + 1) text) × (reading closed (marks (drop (at + 1) text)) ≡ ended (list_of behind.now))
+GivesBehind text at (Some behind) = (behind.now ≡ drop (at + 1) text) × (reading closed (marks (drop (at + 1) text)) ≡ ended (list_of behind.now)) × IsBehind text behind.now
 GivesBehind text at None = reading closed (marks (drop (at + 1) text)) ≡ Err ExtraCharacters
 
 -- the text goes on with an item, and then with the list in what is left; or it is at fault, or memory was refused
 abbrev pub GivesItem : ListPlace → List ℕ → Result (List ℕ × Bor (List ℕ)) SplitFault → Type 0
-GivesItem place text (Ok r) = (length r.1.now ≤ length text) × (reading place (marks text) ≡ onto r.0 (ended (list_of r.1.now)))
+GivesItem place text (Ok r) = (length r.1.now ≤ length text) × (reading place (marks text) ≡ onto r.0 (ended (list_of r.1.now))) × IsBehind text r.1.now
 GivesItem place text (Err (BadList fault)) = reading place (marks text) ≡ Err fault
 GivesItem place text (Err NoMemory) = ⊤
 
 -- the same of a whole list
 abbrev pub GivesElement : List ℕ → Result (List ℕ × Bor (List ℕ)) SplitFault → Type 0
-GivesElement text (Ok r) = (length r.1.now < length text) × (list_of text ≡ items_before (r.0 ∷ []) (list_of r.1.now))
+GivesElement text (Ok r) = (length r.1.now < length text) × (list_of text ≡ items_before (r.0 ∷ []) (list_of r.1.now)) × IsBehind text r.1.now
 GivesElement text (Err (BadList fault)) = list_of text ≡ Err fault
 GivesElement text (Err NoMemory) = ⊤
 

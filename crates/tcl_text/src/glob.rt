@@ -8,6 +8,7 @@ ghost use Rattle.tcl_text.specs.Glob.{in_class, AllowsByClass, AllowsFirst, Glob
 ghost use Rattle.tcl_text.specs.GlobSteps.{HasPart, IsBehindFirst, PassesPlain, StopsAt, Runs, Spans, is_plain as is_plain_of};
 
 use crate::characters::{count, find_text, split_characters, split_first_char};
+use crate::glob_places::behind_dead;
 use crate::text::Text;
 
 impl Text {
@@ -15,7 +16,7 @@ impl Text {
     /// `[..]` for one of its characters and ranges, `\x` for x itself. The first `]` ends a class, in which a backslash is itself.
     /// A pattern whose class isn't closed, or that ends with a lone backslash, matches nothing. It takes no memory. What stands between two
     /// stars costs as many steps as the text is long, where it is plain characters, and what stands behind the last star as many as it is
-    /// long itself; the other parts between stars cost at most their length times the text's.
+    /// long itself; the other parts between stars cost at most their length times the text's, of which an ASCII text has 256 places tried at once.
     pub fn glob_match(pattern: &Text, text: &Text) -> bool
         ensures matches { IsTrue result ↔ GlobMatches (chars pattern.now) (chars text.now) }
         ensures value { result ≡ glob_matches (chars pattern.now) (chars text.now) }
@@ -78,7 +79,7 @@ fn find_parts<'p, 't>(pattern: &'p str, text: &'t str) -> Option<(&'p str, &'t s
     if behind.is_empty() {
         match_end(pattern, parts, text)
     } else {
-        walk_run(pattern, text)
+        walk_run(pattern, parts, text)
     }
 }
 
@@ -189,8 +190,9 @@ fn match_end<'p, 't>(pattern: &'p str, parts: usize, text: &'t str) -> Option<(&
     match_run(pattern, end)
 }
 
-/// The same, by each place one after another.
-fn walk_run<'p, 't>(pattern: &'p str, text: &'t str) -> Option<(&'p str, &'t str)>
+/// The same of a pattern that matches no fewer characters than so many, up to its next `*`: at the first place that isn't known to be dead, and so on.
+fn walk_run<'p, 't>(pattern: &'p str, parts: usize, text: &'t str) -> Option<(&'p str, &'t str)>
+    requires { (any : List ℕ) → GlobMatches (chars pattern.now) any → parts ≤ length any }
     ensures found { IfSome result (λ rests.
         GlobMatches (chars rests.0.now) (chars rests.1.now)
         ↔ GlobMatches (star ∷ chars pattern.now) (chars text.now)) }
@@ -200,11 +202,14 @@ fn walk_run<'p, 't>(pattern: &'p str, text: &'t str) -> Option<(&'p str, &'t str
 {
     let mut from = text;
     loop {
+        if from.len() < parts {
+            return None;
+        }
         if let Some((rest, left)) = match_run(pattern, from) {
             return Some((rest, left));
         }
         let (_skipped, next) = split_first_char(from)?;
-        from = next;
+        from = behind_dead(pattern, parts, next);
     }
 }
 
@@ -301,7 +306,7 @@ fn class_has(class: &str, character: char) -> bool
 }
 
 /// The upper end of a range whose lower end stands before this text, and what follows it.
-fn range_end(after: &str) -> Option<(char, &str)>
+pub(crate) fn range_end(after: &str) -> Option<(char, &str)>
     ensures found { IfSome result (λ parts. chars after.now ≡ minus_sign ∷ parts.0 ∷ chars parts.1.now) }
     ensures none { IfNone result ((high : ℕ) (rest : List ℕ) → chars after.now ≡ minus_sign ∷ high ∷ rest → ⊥) }
     ensures shorter { IfSome result (λ parts. length parts.1.now < length after.now) }

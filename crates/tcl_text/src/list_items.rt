@@ -1,27 +1,45 @@
 //! The items of a list, to be taken one by one.
-ghost use Rattle.std.specs.Prelude.{◌≡◌, ℕ, List, length, slice_get, IfOk};
-ghost use Rattle.tcl_text.specs.ItemsForm.{items_of};
+ghost use Rattle.std.specs.Prelude.{◌≡◌, nat_lt, length, IfOk, OnErr};
+ghost use Rattle.tcl_text.specs.ListCursor.{TakesFirst};
 ghost use Rattle.tcl_text.specs.Readings.{list_of};
 ghost use Rattle.tcl_text.specs.Splitting.{Splits};
 
 use crate::fault::SplitFault;
-use crate::list::TextList;
+use crate::list_cursor::ListCursor;
 use crate::list_string::ListString;
 use crate::text::Text;
 use std::alloc::{AllocError, Global};
 use std::marker::Model;
 use std::rc::Rc;
 
-/// How items are kept.
+/// The items that are left of a list that a text keeps, and shares with them.
 #[derive(Drop)]
-enum ItemsForm {
-    /// As a text keeps its list, and shared with it.
-    Kept(Rc<ListString>),
-    /// By themselves, as they were read in a text.
-    Read(TextList),
+struct KeptItems {
+    list: Rc<ListString>,
+    /// How many of its items were taken.
+    taken: usize,
 }
 
-/// The items of a list, in order. Where the text keeps its list, they are shared with it: nothing is read, and an item costs what it is.
+impl Model for KeptItems {
+    ghost use Rattle.std.specs.Prelude.{ℕ, ◌≤◌, List, length, drop};
+
+    ghost Value = { List (List ℕ) };
+
+    ghost view = { λ k. drop k.taken k.list.value };
+
+    ghost invariant = { λ k. k.taken ≤ length k.list.value };
+}
+
+/// Where items are taken from.
+#[derive(Drop)]
+enum ItemsForm {
+    /// A list that a text keeps.
+    Kept(KeptItems),
+    /// A text, in which they are read.
+    Read(ListCursor),
+}
+
+/// The items of a list that are left, in order: none is kept, and an item costs what it is written in.
 pub struct ListItems {
     form: ItemsForm,
 }
@@ -36,58 +54,66 @@ impl Model for ListItems {
     ghost view = { λ i. items_of i.form };
 }
 
-impl ListItems {
-    /// How many items there are. It takes no memory.
-    pub fn len(&self) -> usize
-        ensures { result ≡ length self.now }
+impl KeptItems {
+    /// Whether items are left.
+    fn has_more(&self) -> bool
+        ensures { result ≡ nat_lt 0 (length self.now) }
     {
-        match &self.form {
-            ItemsForm::Kept(list) => list.as_ref().len(),
-            ItemsForm::Read(items) => items.len(),
-        }
+        self.taken < self.list.as_ref().len()
     }
 
-    /// The item of this number, counted from 0, if there are so many.
-    pub fn get(&self, alloc: Global, number: usize) -> Result<Option<Text>, AllocError>
-        ensures { IfOk result (λ item. item ≡ slice_get self.now number) }
+    /// Takes the first item, if one is left.
+    fn take_first(&mut self, alloc: Global) -> Result<Option<Text>, AllocError>
+        ensures ok { IfOk result (λ item. TakesFirst self.old item self.new) }
+        ensures err { OnErr result (self.new ≡ self.old) }
     {
-        match &self.form {
-            ItemsForm::Kept(list) => kept_item(alloc, list.as_ref(), number),
-            ItemsForm::Read(items) => match items.as_slice().get(number) {
-                Some(item) => Ok(Some(item.copy()?)),
-                None => Ok(None),
-            },
+        let list = self.list.as_ref();
+        if self.taken == list.len() {
+            return Ok(None);
         }
+        let item = list.item(alloc, self.taken)?;
+        self.taken += 1;
+        Ok(Some(item))
     }
 }
 
-/// The item of this number of a list, counted from 0, if there are so many.
-#[tactic(auto, using(crate::proofs::ItemLemmas::item_there))]
-fn kept_item(alloc: Global, list: &ListString, number: usize) -> Result<Option<Text>, AllocError>
-    ensures { IfOk result (λ item. item ≡ slice_get list.now number) }
-{
-    if number < list.len() {
-        Ok(Some(list.item(alloc, number)?))
-    } else {
-        Ok(None)
+impl ListItems {
+    /// Whether items are left. It takes no memory.
+    pub fn has_more(&self) -> bool
+        ensures { result ≡ nat_lt 0 (length self.now) }
+    {
+        match &self.form {
+            ItemsForm::Kept(items) => items.has_more(),
+            ItemsForm::Read(items) => items.has_more(),
+        }
+    }
+
+    /// Takes the first item, if one is left.
+    pub fn take_first(&mut self, alloc: Global) -> Result<Option<Text>, AllocError>
+        ensures ok { IfOk result (λ item. TakesFirst self.old item self.new) }
+        ensures err { OnErr result (self.new ≡ self.old) }
+    {
+        match &mut self.form {
+            ItemsForm::Kept(items) => items.take_first(alloc),
+            ItemsForm::Read(items) => items.take_first(alloc),
+        }
     }
 }
 
 impl Text {
-    /// The elements of the list that the text is, as `split_list` gives them, in a form that is taken one by one.
+    /// The elements of the list that the text is, as `split_list` gives them, to be taken one by one. `BadList` (3) says which is the
+    /// first fault, wherever it stands.
     pub fn list_items(&self, alloc: Global) -> Result<ListItems, SplitFault>
         ensures { Splits result (list_of self.now) }
     {
-        if let Some(list) = self.as_kept(alloc) {
-            let list = list.clone()?;
-            return Ok(ListItems {
-                form: ItemsForm::Kept(list),
-            });
-        }
-        let items = self.split_list(alloc)?;
-        Ok(ListItems {
-            form: ItemsForm::Read(items),
-        })
+        let form = match self.as_kept(alloc) {
+            Some(list) => ItemsForm::Kept(KeptItems {
+                list: list.clone()?,
+                taken: 0,
+            }),
+            None => ItemsForm::Read(ListCursor::new(alloc, self)?),
+        };
+        Ok(ListItems { form })
     }
 }
 

@@ -6,6 +6,7 @@ ghost use Rattle.tcl_text.specs.Splitting.{FindsBrace, GivesBehind, GivesElement
 ghost use Rattle.tcl_text.specs.Limits.{most_bytes};
 
 use crate::backslash::{Meaning, escape_behind};
+use crate::element::Element;
 use crate::fault::{ListFault, SplitFault};
 use crate::list::TextList;
 use crate::text::Text;
@@ -132,7 +133,7 @@ fn unescaped(alloc: Global, text: &[u8], quoted: bool) -> Result<(Vec<u8>, usize
 }
 
 /// What an element in quotes or a bare one is, and how many bytes it is written in up to its end.
-fn item_in(alloc: Global, text: &str, quoted: bool) -> Result<(Text, usize), AllocError>
+fn item_in(alloc: Global, text: &str, quoted: bool) -> Result<(Element<'_>, usize), AllocError>
     requires { length text.now ≤ most_bytes }
     ensures read { IfOk result (λ r. Unescapes quoted text.now r.0 r.1) }
     ensures end { IfOk result (λ r. IsAtEnd quoted text.now r.1) }
@@ -140,10 +141,11 @@ fn item_in(alloc: Global, text: &str, quoted: bool) -> Result<(Text, usize), All
     let bytes = text.as_bytes();
     let run = run_len(bytes, quoted);
     if run == bytes.len() || bytes[run] != b'\\' {
-        return Ok((Text::of_short(alloc, &text[..run])?, run));
+        return Ok((Element::written(&text[..run]), run));
     }
     let (item, length) = unescaped(alloc, bytes, quoted)?;
-    Ok((Text::of_bytes(alloc, item)?, length))
+    let made = Text::of_bytes(alloc, item)?;
+    Ok((Element::made(made), length))
 }
 
 /// Whether an element may end before these bytes: they are none, or begin with white space.
@@ -171,7 +173,7 @@ fn behind_closing(text: &str, at: usize) -> Option<&str>
 }
 
 /// The item that stands in braces, from behind the opening one, and the text behind it.
-fn braced(alloc: Global, text: &str) -> Result<(Text, &str), SplitFault>
+fn braced(text: &str) -> Result<(Element<'_>, &str), SplitFault>
     requires { length text.now ≤ most_bytes }
     ensures { GivesItem (readings.in_braces 0) text.now result }
 {
@@ -181,11 +183,11 @@ fn braced(alloc: Global, text: &str) -> Result<(Text, &str), SplitFault>
     let Some(behind) = behind_closing(text, length) else {
         return Err(SplitFault::BadList(ListFault::ExtraCharacters));
     };
-    Ok((Text::of_short(alloc, &text[..length])?, behind))
+    Ok((Element::written(&text[..length]), behind))
 }
 
 /// The item that stands in quotes, from behind the opening one, and the text behind it.
-fn quoted(alloc: Global, text: &str) -> Result<(Text, &str), SplitFault>
+fn quoted(alloc: Global, text: &str) -> Result<(Element<'_>, &str), SplitFault>
     requires { length text.now ≤ most_bytes }
     ensures { GivesItem readings.in_quotes text.now result }
 {
@@ -200,7 +202,7 @@ fn quoted(alloc: Global, text: &str) -> Result<(Text, &str), SplitFault>
 }
 
 /// The bare item in front, and the text behind it.
-fn bare(alloc: Global, text: &str) -> Result<(Text, &str), SplitFault>
+fn bare(alloc: Global, text: &str) -> Result<(Element<'_>, &str), SplitFault>
     requires some { 0 < length text.now }
     requires short { length text.now ≤ most_bytes }
     requires begins { begins_bare_element (backslash.kind_of (slice_index text.now 0)) ≡ true }
@@ -210,18 +212,30 @@ fn bare(alloc: Global, text: &str) -> Result<(Text, &str), SplitFault>
     Ok((item, &text[length..]))
 }
 
-/// The first element of a list, and the text behind it.
-pub fn first_element(alloc: Global, text: &str) -> Result<(Text, &str), SplitFault>
+/// The item in front of a list where it stands, and the text behind it.
+pub fn front_element(alloc: Global, text: &str) -> Result<(Element<'_>, &str), SplitFault>
     requires some { 0 < length text.now }
     requires short { length text.now ≤ most_bytes }
     requires black { backslash.is_white (slice_index text.now 0) ≡ false }
     ensures { GivesElement text.now result }
 {
     match kind(text.as_bytes()[0]) {
-        ByteKind::OpenBrace => braced(alloc, &text[1..]),
+        ByteKind::OpenBrace => braced(&text[1..]),
         ByteKind::Quote => quoted(alloc, &text[1..]),
         _ => bare(alloc, text),
     }
+}
+
+/// The item in front of a list, and the text behind it.
+pub fn first_element(alloc: Global, text: &str) -> Result<(Text, &str), SplitFault>
+    requires some { 0 < length text.now }
+    requires short { length text.now ≤ most_bytes }
+    requires black { backslash.is_white (slice_index text.now 0) ≡ false }
+    ensures { GivesElement text.now result }
+{
+    let (element, behind) = front_element(alloc, text)?;
+    let item = element.into_text(alloc)?;
+    Ok((item, behind))
 }
 
 /// The items of the list that the text is.

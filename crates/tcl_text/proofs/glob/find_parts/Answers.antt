@@ -13,3 +13,6 @@ returns-in_err-parts-clause-none c =
 pub match_end-requires : goal.match_end-requires
 match_end-requires c =
     subst (λ (t : List ℕ). Spans (chars c.args.pattern.now) t c.in_ok-parts.parts) (chars-no_bytes c.in_ok-parts.behind.now (grind (arith, nat_tests))) c.in_ok-parts.ensures.spans
+
+pub walk_run-requires : goal.walk_run-requires
+walk_run-requires c = λ any m. (c.in_ok-parts.ensures.spans.forth any m).0

@@ -8,7 +8,7 @@ range_from-behind-requires c = λ _. IsCharBoundary-after_ascii c.args.text.now 
 
 pub returns-then-is_behind_element : goal.returns-then-is_behind_element
 returns-then-is_behind_element c =
-    gives_behind c.args.text.now c.as_bytes.result.now c.args.at c.range_from-behind.result c.range_from-behind.ensures.value c.as_bytes.ensures.value (sym c.is_behind_element.ensures ∙ c.if-is_behind_element.true)
+    gives_behind c.args.text.now c.as_bytes.result.now c.args.at c.range_from-behind.result c.requires.inside c.range_from-behind.ensures.value c.as_bytes.ensures.value (sym c.is_behind_element.ensures ∙ c.if-is_behind_element.true)
 
 pub returns-else-is_behind_element : goal.returns-else-is_behind_element
 returns-else-is_behind_element c =

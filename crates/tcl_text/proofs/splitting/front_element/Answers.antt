@@ -5,7 +5,7 @@ use Rattle.tcl_text.specs.Backslash.{kind_of}
 use Rattle.tcl_text.proofs.SplittingLemmas.{told}
 use Rattle.tcl_text.proofs.ElementLemmas.{gives_braced, gives_quoted, begins_bare_from}
 use Rattle.tcl_text.specs.declared.splitting.ByteKind.TheVariants.{OpenBrace, Quote}
-use Rattle.tcl_text.proofs.splitting.first_element.Goals as goal
+use Rattle.tcl_text.proofs.splitting.front_element.Goals as goal
 
 pub range_from-requires : goal.range_from-requires
 range_from-requires c = λ _.

@@ -162,6 +162,22 @@ pub fn expand_at(words: &[Word], index: usize) -> bool
     }
 }
 
+/// From how many bytes on a word is compared with the one in front of it.
+const SHARED_FROM: usize = 1_024;
+
+/// A word. Where the one in front of it is the same long text, it shares that one: what brackets make again and again takes room once.
+fn shared_word(whole: &TextList, text: Text) -> Result<Text, AllocError>
+    ensures { IfOk result (λ word. word ≡ text) }
+{
+    if text.as_str().len() < SHARED_FROM {
+        return Ok(text);
+    }
+    match whole.as_slice().last() {
+        Some(last) if last.as_str() == text.as_str() => last.copy(),
+        _ => Ok(text),
+    }
+}
+
 /// The words so far, and those that a word of this text gives; or the error's text.
 fn with_words(
     alloc: Global,
@@ -174,8 +190,9 @@ fn with_words(
     if expand {
         with_elements(alloc, whole, &text)
     } else {
+        let word = shared_word(&whole, text)?;
         let mut all = whole;
-        all.push(text)?;
+        all.push(word)?;
         Ok(Ok(all))
     }
 }

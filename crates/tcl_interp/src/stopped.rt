@@ -18,29 +18,18 @@ fn is_body<K>(frames: &[Frame<K>], index: usize) -> bool {
     }
 }
 
-/// The command of a script before which this many others stand.
-fn place_of(
-    place: &ScriptPlace,
-    index: usize,
-    is_in_body: bool,
-) -> Result<CommandPlace, AllocError> {
-    Ok(CommandPlace {
-        script: place.script.copy()?,
-        index,
-        is_in_body,
-    })
-}
-
 /// The command for which the frame at an index waits, where it waits for one.
 fn place_in<K>(frames: &[Frame<K>], index: usize) -> Result<Option<CommandPlace>, AllocError> {
     match frames.get(index) {
         Some(Frame::ForCommand(place)) => {
             let before = place.next.saturating_sub(1);
-            Ok(Some(place_of(place, before, is_body(frames, index))?))
+            let is_in_body = is_body(frames, index);
+            Ok(Some(CommandPlace::new(&place.script, before, is_in_body)?))
         }
         Some(Frame::ForPart(wording)) => {
             let place = &wording.place;
-            Ok(Some(place_of(place, place.next, is_body(frames, index))?))
+            let is_in_body = is_body(frames, index);
+            Ok(Some(CommandPlace::new(&place.script, place.next, is_in_body)?))
         }
         _ => Ok(None),
     }
@@ -67,7 +56,7 @@ pub fn note_error<K>(
     ensures { table.new ≡ table.old }
 {
     let is_in_body = is_body(frames, frames.len());
-    table.note_place(place_of(place, index, is_in_body)?)
+    table.note_place(CommandPlace::new(&place.script, index, is_in_body)?)
 }
 
 /// The command of a script before the place has ended: with an error, that is noted.

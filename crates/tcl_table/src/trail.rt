@@ -10,30 +10,39 @@ const PLACES: usize = 16;
 /// How many notes are kept: the first ones.
 const NOTES: usize = 64;
 
-/// A command of a script that had begun and hadn't ended.
+/// A command of a script that had begun and hadn't ended. What was read of the script isn't kept for it, only the text, which is shared.
 #[derive(Drop)]
 pub struct CommandPlace {
-    /// The script in which it stands.
-    pub script: Script,
-    /// How many commands stand before it there.
-    pub index: usize,
+    /// The text of the script in which it stands.
+    pub script: Text,
+    /// Where it stands there, in bytes.
+    pub span: Option<Span>,
     /// Whether the script is the body of a procedure.
     pub is_in_body: bool,
 }
 
 impl CommandPlace {
-    ghost use Rattle.std.specs.Prelude.{◌≡◌, List, Ok, option_map, slice_get};
+    ghost use Rattle.std.specs.Prelude.{◌≡◌, List, Ok, IfOk, option_map, slice_get};
     ghost use Rattle.tcl_words.specs.Reading.{commands_of};
     ghost use Rattle.tcl_words.specs.declared.script.Command.{Command};
 
-    /// Where it stands in the script, in bytes.
-    pub fn span(&self) -> Option<Span>
-        ensures { (commands : List Command) → commands_of self.now.script ≡ Ok commands → result ≡ option_map (λ c. c.span) (slice_get commands self.now.index) }
+    /// The command of a script before which this many others stand. It takes no memory; it is refused only where the count of the text's sharers
+    /// is full.
+    pub fn new(script: &Script, index: usize, is_in_body: bool) -> Result<CommandPlace, AllocError>
+        ensures script { IfOk result (λ place. place.script ≡ script.now) }
+        ensures span { (commands : List Command) → commands_of script.now ≡ Ok commands
+            → IfOk result (λ place. place.span ≡ option_map (λ c. c.span) (slice_get commands index)) }
+        ensures body { IfOk result (λ place. place.is_in_body ≡ is_in_body) }
     {
-        match self.script.commands().get(self.index) {
+        let span = match script.commands().get(index) {
             Some(command) => Some(command.span),
             None => None,
-        }
+        };
+        Ok(CommandPlace {
+            script: script.text().copy()?,
+            span,
+            is_in_body,
+        })
     }
 }
 

@@ -32,22 +32,23 @@ def brackets(count):
 
 def failing(count):
     """An event whose script begins such a script, and that another one, until the sixteenth fails: no text is read twice."""
-    there = " ".join("%d {}" % number for number in range(1, 1025) if number % 16)
+    there = " ".join("%d {}" % number for number in range(1, 1041) if number % 16)
     return brackets(count) + r'; set s "eval \$s\[incr n]\$v(\$n)\n$b;#"; bind . <<Fail>> {eval $s[incr n]$v($n)}; array set v {%s}' % there
 
 
 def nested(items):
-    """A loop over a list of so many items whose body is the loop again, until no more scripts may nest."""
-    return "set l [string repeat {a } %d]; set s {foreach a $l. $s}; catch {eval $s}" % (items - 1)
+    """A loop over as many lists as a list has pairs of items, whose body is the loop again, until no more scripts may nest."""
+    return "set l [string repeat {a } %d]; set s {foreach {*}$l a x $s}; catch {eval $s}" % (items - 2)
 
 
 def keeping(part):
-    """A script that keeps as much as it can with each step, of texts of a part of the longest: pairs, errors, procedures, listboxes."""
+    """A script that keeps as much as it can with each step, of texts of a part of the longest: pairs, procedures, listboxes, lines."""
     size = 65_536 // part
-    procedures = "\n".join("proc p%d $l {}" % number for number in range(1024))
-    first = failing((size - 380) // 3) + "; set x [string repeat x %d]; set l [string repeat {a } %d]" % (size - 8, size // 2)
+    texts = r"set x [string repeat x %d]; set l [string repeat {a } %d]; set f [string repeat \n %d]" % (size - 8, size // 2, size - 8)
     pairs = "event add <<$x>> " + " ".join(SEQUENCES[:1000])
-    return "\n".join([first, pairs, "set n 0\nwhile {$n < 1024} {event generate . <<Fail>>}", procedures, "set s {$p insert end {*}$l}", "while 1 {set p [listbox .x[incr i]]; eval $s}"])
+    procedures = "\n".join("proc p%d $l {}" % number for number in range(1024))
+    listboxes = "set s {$p insert end {*}$l}\ncatch {while 1 {set p [listbox .x[incr i]]; eval $s}}"
+    return "\n".join([texts, pairs, procedures, listboxes, *["puts $f"] * 4000])
 
 
 @dataclasses.dataclass
@@ -76,15 +77,16 @@ class Row:
 
 ROWS = [
     Row("words of lists", LIST, "set e list; append e [string repeat { {*}$l} 100]; catch {eval $e}", 100 * 32_765),
+    Row("lists of loops", LIST, "set e foreach; append e [string repeat { {*}$l} 100] { break}; eval $e", 50 * 32_765),
     Row("words put together", TEXT, "set e list; append e [string repeat { $x.} 1000]; catch {eval $e}", 1000),
-    Row("items of loops", LIST, "set e foreach; append e [string repeat { a $l.} 100] { break}; eval $e", 100 * 32_766),
+    Row("texts of loops", LIST, "set e foreach; append e [string repeat { a $l.} 100] { break}; eval $e", 100),
     Row("scripts of an event", TEXT + "; set t {}; " + times(1000, 'bind t$i <Key-x> "#[string range $x 9 end]%K"; lappend t t$i') + "; bindtags . $t", "event generate . <Key-x>", 1000),
     Row("bytes of a script", brackets(21_710), "catch {eval $b}", 65_510),
     Row("items of other lists", TEXT, "catch {split $x {}}", 65_528),
     Row("pairs of one name", TEXT, "event add <<$x>> " + " ".join(SEQUENCES[:1000]), 1000),
     Row("lines", FEEDS, times(300, "puts $x."), 300),
     Row("events of layout", times(511, "pack [frame .w$i -width 5 -height 1]") + "; update", times(100, ".w1 configure -height [expr {1 + $i % 2}]; update idletasks"), 100 * 511, size=(200, 1000)),
-    Row("bytes of scripts that failed", failing(2600), times(4, "event generate . <<Fail>>"), 4 * 16 * 8_206),
+    Row("scripts that failed", failing(21_700) + "; catch {eval $s[incr n]$v($n)}", times(64, "event generate . <<Fail>>"), 64 * 16),
     Row("variables", LIST + "; " + TEXT, times(200, KEPT + "; set $x$i $s; unset s"), 200),
     Row("bindings", LIST, times(100, "set t $l.$i; llength $t; llength $t; " + KEPT + "; bind $t a $s"), 100),
     Row("pairs", TEXT, times(200, "event add <<$x$i>> a"), 200),
@@ -99,7 +101,7 @@ ROWS = [
     Row("sixteen of 1,000 steps at once", "", nested(8192), 1 / 4 / 10_900, 16, 1000),
     Row("1,000 steps for good", "", keeping(16), 1 / 16, steps=1000),
     Row("4,000 steps for good", "", keeping(16), 1 / 16, steps=4000),
-    Row("sixteen of 1,000 steps for good", "", keeping(16), 1 / 16 / 8, 16, 125),
+    Row("sixteen of 1,000 steps for good", "", keeping(64), 1 / 64, 16, 1000),
 ]
 
 

@@ -25,7 +25,7 @@ STEP = [
     ("string match, many stars", "set s [string repeat z %(n)d]; set p [string repeat *z %(m)d]y", "string match $p $s", {"n": BYTES, "m": BYTES // 2 - 1}),
     ("split at many", "set s [string repeat z %(n)d]; set c [string repeat y %(m)d]", "split $s $c", {"n": BYTES, "m": BYTES}),
     ("string first", "set s [string repeat z %(n)d]; set c [string repeat z %(m)d]y", "string first $c $s", {"n": BYTES, "m": BYTES - 1}),
-    ("array names", r"set s [string repeat z %(n)d]; set p *\[[string repeat y %(m)d]\]; set i 0; while {[incr i] <= %(keys)d} {set t($s$i) 1}", "array names t $p", {"n": BYTES - 4, "m": BYTES - 3, "keys": 4000}),
+    ("array names", r"set s [string repeat z %(n)d]; set p *\[[string repeat y %(m)d]\]; set i 0; while {[incr i] <= %(keys)d} {set t($s$i) 1}", "array names t $p", {"n": BYTES - 16, "m": BYTES - 3, "keys": 4000}),
     ("array names, short keys", "set l {}; set i 0; while {[incr i] <= %(keys)d} {lappend l $i $i}; array set t $l", "array names t *", {"keys": 4000}),
     ("array unset", "set l {}; set i 0; while {[incr i] <= %(keys)d} {lappend l $i $i}; array set t $l", "array unset t *", {"keys": 4000}),
     ("array set", "set l {}; set i 0; while {[incr i] <= %(keys)d} {lappend l $i $i}", "array set t $l", {"keys": 4000}),

@@ -1,11 +1,11 @@
 -- Facts about glob patterns.
-use Rattle.std.proofs.Common.{◌≡◌, ℕ, zero, suc, ◌+◌, ◌-◌, ◌<◌, ◌≤◌, ◌⊎◌, inl, inr, Bool, true, false, ◌||◌, eqb, ltb, List, [], ◌∷◌, ◌++◌, length, take, drop, Option, Some, None, Bor, refl, sym, ap, subst, ◌∙◌, arith}
+use Rattle.std.proofs.Common.{◌≡◌, ℕ, zero, suc, ◌+◌, ◌-◌, ◌<◌, ◌≤◌, ◌⊎◌, inl, inr, Bool, true, false, ◌||◌, eqb, ltb, List, [], ◌∷◌, ◌++◌, length, get_or, take, drop, Option, Some, None, Bor, refl, sym, ap, subst, ◌∙◌, arith}
 use Rattle.std.specs.Str.{chars, IsUtf8, NonePass, NoCharPasses, encode_utf8_all}
-use Rattle.std.proofs.lemmas.Str.{chars-append, chars_from_encodes, encodes-chars, chars-nil}
+use Rattle.std.proofs.lemmas.Str.{chars-append, chars_from_encodes, encodes-chars, encode_ascii, chars-nil}
 use Rattle.std.proofs.lemmas.Bool.{ne_eqb, eqb-false, cases_lt}
 use Rattle.std.proofs.lemmas.List.{take-append-drop, drop-drop, drop_at}
 use Rattle.std.proofs.lemmas.Bool.Decides.{eqb_tells, nat_tests}
-use Rattle.std.specs.Option.{IfSome, IfNone}
+use Rattle.std.specs.Option.{IfSome, IfNone, MatchOption}
 use Rattle.std.specs.Bool.{then_some}
 use Rattle.std.proofs.lemmas.Str.Pattern.{IsSplitOnceResult, split_parts}
 use Rattle.tcl_text.specs.Glob.{in_class, Lacks, AllowsByClass, AllowsFirst, GlobMatches}
@@ -192,6 +192,27 @@ in_class-past_range low high c text after next et ea h = rw (et, ea) (grind (ari
 
 pub in_class-past_one : (low c : ℕ) (text after : List ℕ) → text ≡ low ∷ after → ((high : ℕ) (rest : List ℕ) → after ≡ 45 ∷ high ∷ rest → ⊥) → (low ≡ c → ⊥) → in_class after c ≡ in_class text c
 in_class-past_one low c text after et none other = rw (et, in_class-one low c after none, ne_eqb low c other) refl
+
+-- what follows a `-` in front, and that none stands there
+pub behind_dash : (text : List ℕ) → 0 < length text → get_or text 0 0 ≡ 45 → chars text ≡ 45 ∷ chars (drop 1 text)
+behind_dash [] some is = absurd (omega arith)
+behind_dash (c ∷ cs) some is = ap (λ (b : ℕ). chars (b ∷ cs)) is ∙ chars-ascii_cons 45 cs refl
+
+pub no_dash : (text : List ℕ) → IsUtf8 text → (get_or text 0 0 ≡ 45 → ⊥) → (high : ℕ) (rest : List ℕ) → chars text ≡ 45 ∷ high ∷ rest → ⊥
+no_dash text utf8 other high rest is =
+    other (ap (λ (t : List ℕ). get_or t 0 0) (sym (encodes-chars text utf8) ∙ ap encode_utf8_all is ∙ ap (λ (front : List ℕ). front ++ encode_utf8_all (high ∷ rest)) (encode_ascii 45 (omega arith))))
+
+pub no_front : (text : List ℕ) → length text ≡ 0 → get_or text 0 0 ≡ 45 → ⊥
+no_front [] none is = omega arith
+no_front (c ∷ cs) none is = omega arith
+
+pub end_found : (text rest : List ℕ) (end : Option (ℕ × Bor (List ℕ))) → chars text ≡ 45 ∷ chars rest → MatchOption end (chars rest ≡ []) (λ parts. chars rest ≡ parts.0 ∷ chars parts.1.now) → IfSome end (λ parts. chars text ≡ 45 ∷ parts.0 ∷ chars parts.1.now)
+end_found text rest None is cut = tt
+end_found text rest (Some parts) is cut = is ∙ ap (λ (cs : List ℕ). 45 ∷ cs) cut
+
+pub end_missing : (text rest : List ℕ) (end : Option (ℕ × Bor (List ℕ))) → chars text ≡ 45 ∷ chars rest → MatchOption end (chars rest ≡ []) (λ parts. chars rest ≡ parts.0 ∷ chars parts.1.now) → IfNone end ((high : ℕ) (others : List ℕ) → chars text ≡ 45 ∷ high ∷ others → ⊥)
+end_missing text rest None is cut = λ high others more. let none : 45 ∷ [] ≡ 45 ∷ high ∷ others = ap (λ (cs : List ℕ). 45 ∷ cs) (sym cut) ∙ sym is ∙ more in absurd cc
+end_missing text rest (Some parts) is cut = tt
 
 -- a text in which no `]` stands holds no class
 pub AllowsByClass-unclosed : (bs : List ℕ) → IsUtf8 bs → NoCharPasses (λ d. eqb d 93) bs → (c : ℕ) (rest : List ℕ) → AllowsByClass (chars bs) c rest → ⊥

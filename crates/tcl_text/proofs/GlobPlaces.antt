@@ -1,13 +1,14 @@
 -- Facts about the places of a text that are tried at once.
-use Rattle.std.proofs.Common.{◌≡◌, ℕ, ◌+◌, ◌-◌, ◌<◌, ◌≤◌, ◌⊎◌, inl, inr, Bool, true, false, ◌&&◌, not, eqb, leb, Option, Some, None, List, [], ◌∷◌, ◌++◌, length, take, drop, replicate, get_or, set, refl, sym, ap, subst, ◌∙◌, arith}
+use Rattle.std.proofs.Common.{◌≡◌, ℕ, ◌+◌, ◌-◌, ◌<◌, ◌≤◌, ◌⊎◌, inl, inr, Bool, true, false, ◌&&◌, ◌||◌, min, eqb, leb, ltb, Option, Some, None, List, [], ◌∷◌, ◌++◌, length, take, drop, replicate, get_or, set, refl, sym, ap, subst, ◌∙◌, arith}
 use Rattle.std.specs.Str.{chars, IsUtf8, IsAscii, IsCharBoundary}
-use Rattle.std.proofs.lemmas.Bool.{true≢false, false≢true, and_cases, and_parts, eqb-false, leb-false, not-true, not-false, cases_eq, cases_lt}
+use Rattle.std.proofs.lemmas.Bool.{true≢false, false≢true, and_cases, eqb-false, or_right, cases_eq, cases_lt}
+use Rattle.std.proofs.lemmas.Bool.Decides.{nat_tests}
 use Rattle.std.proofs.lemmas.List.{get_or-set_same, get_or-set_other, get_or-take, get_or-drop, get_or_append_left, get_or-replicate, length-replicate, drop-drop, take-take, take-append-drop, length-take-le, length-drop, drop_at}
 use Rattle.std.proofs.lemmas.Str.{chars-append, chars-IsAscii, encodes-chars, length-le-encodes, IsAscii-take, IsUtf8-from_ascii, IsCharBoundary-from_take}
 use Rattle.std.specs.Option.{IfSome}
 use Rattle.tcl_text.specs.Glob.{in_class, Lacks, AllowsFirst, GlobMatches}
-use Rattle.tcl_text.specs.GlobSteps.{AreDead, Closes, HasPart, IsBehindDead, IsOutside, Keeps, KeepsAllowed, KeepsEqual, Spans}
-use Rattle.tcl_text.proofs.GlobLemmas.{AllowsByClass-first, AllowsFirst-class, GlobMatches-part, GlobMatches-star, drop_past, in_class-past_one, in_class-past_range}
+use Rattle.tcl_text.specs.GlobSteps.{AreDead, HasPart, IsBehindDead, Keeps, KeepsAllowed, KeepsEqual, Spans}
+use Rattle.tcl_text.proofs.GlobLemmas.{AllowsByClass-first, AllowsFirst-class, GlobMatches-part, GlobMatches-star, drop_past, in_class-one}
 use Rattle.tcl_text.proofs.GlobPieces.{behind_escaped, class_rest}
 
 -- a pass over the places, as far as it has come
@@ -44,18 +45,6 @@ keeps_equal wanted bytes before after keeps = λ place within dead.
       | inr other ↦ inr (eqb-false (get_or bytes place 0) wanted other)
     ]
 
--- a pass that closes the bytes of a range
-pub closes : (low high most : ℕ) (bytes : List ℕ) (before after : List Bool) → Keeps (λ place. not (leb low (get_or bytes place 0) && leb (get_or bytes place 0) most)) before after → ((place : ℕ) → most < get_or bytes place 0 → high < get_or bytes place 0) → Closes low high bytes before after
-closes low high most bytes before after keeps above = λ place within stays.
-    let byte = get_or bytes place 0 in
-    let both = and_parts (get_or before place false) (not (leb low byte && leb byte most)) (sym (keeps place within) ∙ stays) in (
-      both.0,
-      elim (and_cases (leb low byte) (leb byte most) (not-true (leb low byte && leb byte most) both.1)) [
-        | inl below ↦ inl (leb-false low byte below)
-        | inr past ↦ inr (above place (leb-false byte most past))
-      ],
-    )
-
 -- what the pattern's first part allows, by what it is
 first_is : (first : ℕ) (after : List ℕ) (c : ℕ) (rest : List ℕ) → (first ≡ 63 → ⊥) → (first ≡ 91 → ⊥) → (first ≡ 92 → ⊥) → AllowsFirst (first ∷ after) c rest → first ≡ c
 first_is first after c rest any class escape (inl h) = absurd (any h.0)
@@ -82,15 +71,20 @@ allowed_escaped pattern after escaped others bytes before places is next keeps =
           other heads)
     ]
 
-pub allowed_class : (text class rest bytes : List ℕ) (before places open_places : List Bool) → text ≡ class ++ 93 ∷ rest → Lacks 93 class → IsOutside class bytes open_places → length open_places ≡ length before → Keeps (λ place. not (get_or open_places place false)) before places → KeepsAllowed (91 ∷ text) bytes before places
-allowed_class text class rest bytes before places open_places cut lacks outside long keeps = λ place within dead.
+-- the bytes, as characters, that the class has
+abbrev pub AreMembers : List ℕ → List Bool → Type 0
+AreMembers class members = (byte : ℕ) → byte < 256 → get_or members byte false ≡ in_class class byte
+
+pub allowed_class : (text class rest bytes : List ℕ) (before places members : List Bool) → text ≡ class ++ 93 ∷ rest → Lacks 93 class → AreMembers class members → ((place : ℕ) → get_or bytes place 0 < 256)
+    → Keeps (λ place. get_or members (get_or bytes place 0) false) before places → KeepsAllowed (91 ∷ text) bytes before places
+allowed_class text class rest bytes before places members cut lacks are bytes_fit keeps = λ place within dead.
     let byte = get_or bytes place 0 in
-    elim (and_cases (get_or before place false) (not (get_or open_places place false)) (sym (keeps place within) ∙ dead)) [
+    elim (and_cases (get_or before place false) (get_or members byte false) (sym (keeps place within) ∙ dead)) [
       | inl was ↦ inl was
-      | inr opened ↦ inr (λ other allows.
+      | inr none ↦ inr (λ other allows.
           let by_class = AllowsFirst-class (91 ∷ text) text byte other refl allows in
           let has : in_class class byte ≡ true = AllowsByClass-first text class rest byte other cut lacks by_class in
-          false≢true (sym (outside place (omega arith) (not-false (get_or open_places place false) opened)) ∙ has))
+          false≢true (sym none ∙ are byte (bytes_fit place) ∙ has))
     ]
 
 pub behind_class_first : (text class rest : List ℕ) (c : ℕ) (other : List ℕ) → text ≡ class ++ 93 ∷ rest → Lacks 93 class → AllowsFirst (91 ∷ text) c other → other ≡ rest
@@ -103,37 +97,79 @@ IfSome-any (Some x) P h = h
 pub first_part : (pattern : List ℕ) (first : ℕ) (after : List ℕ) → pattern ≡ first ∷ after → (first ≡ 42 → ⊥) → HasPart pattern
 first_part pattern first after is star = rw is star
 
--- a class, as far as it has been looked at: what is open has a byte that the class has only if the rest of it does
-pub record OutsideSoFar (class rest bytes : List ℕ) (places : List Bool) : Type 0 where
-  pub same : (place : ℕ) → place < length places → get_or places place false ≡ true → in_class rest (get_or bytes place 0) ≡ in_class class (get_or bytes place 0)
+-- a class, as far as it has been looked at: it has the bytes that were noted, and those that the rest of it has
+pub record MembersTo (class rest : List ℕ) (members : List Bool) : Type 0 where
+  pub told : (byte : ℕ) → byte < 256 → (get_or members byte false || in_class rest byte) ≡ in_class class byte
 
-pub outside_none : (class bytes : List ℕ) (places : List Bool) → OutsideSoFar class class bytes places
-outside_none class bytes places = record { same = λ place within stays. refl }
+-- what is noted at a step is in a range
+abbrev pub Adds : ℕ → ℕ → List Bool → List Bool → Type 0
+Adds low high before now = (byte : ℕ) → byte < 256 → get_or now byte false ≡ (get_or before byte false || (leb low byte && leb byte high))
 
-pub outside_all : (class rest bytes : List ℕ) (places : List Bool) → OutsideSoFar class rest bytes places → rest ≡ [] → IsOutside class bytes places
-outside_all class rest bytes places outside ended = λ place within stays.
-    sym (outside.same place within stays) ∙ ap (λ (r : List ℕ). in_class r (get_or bytes place 0)) ended
+pub members_none : (class : List ℕ) (members : List Bool) → members ≡ replicate 256 false → MembersTo class class members
+members_none class members none = record { told = λ byte below. ap (λ (b : Bool). b || in_class class byte) (ap (λ (bs : List Bool). get_or bs byte false) none ∙ get_or-replicate 256 byte false false below) }
 
-pub outside_range : (class rest after next bytes : List ℕ) (low high : ℕ) (before now : List Bool) → OutsideSoFar class rest bytes before → length now ≡ length before → Closes low high bytes before now → rest ≡ low ∷ after → after ≡ 45 ∷ high ∷ next → OutsideSoFar class next bytes now
-outside_range class rest after next bytes low high before now outside long closes is range = record {
-  same = λ place within stays.
-      let byte = get_or bytes place 0 in
-      let closed = closes place (omega arith) stays in
-      let misses : ((low ≤ byte) × (high < byte)) ⊎ (byte < low) = elim closed.1 [
-        | inl below ↦ inr below
-        | inr above ↦ elim (cases_lt byte low) [ inl below ↦ inr below | inr from ↦ inl (from, above) ]
-      ] in
-      in_class-past_range low high byte rest after next is range misses ∙ outside.same place (omega arith) closed.0;
+or_or : (a b c : Bool) → ((a || b) || c) ≡ (a || (b || c))
+or_or true b c = refl
+or_or false b c = refl
+
+members_more : (class rest next : List ℕ) (low high : ℕ) (before now : List Bool) → MembersTo class rest before → Adds low high before now → ((c : ℕ) → in_class rest c ≡ ((leb low c && leb c high) || in_class next c)) → MembersTo class next now
+members_more class rest next low high before now members adds step = record {
+  told = λ byte below.
+      ap (λ (b : Bool). b || in_class next byte) (adds byte below)
+      ∙ or_or (get_or before byte false) (leb low byte && leb byte high) (in_class next byte)
+      ∙ ap (λ (b : Bool). get_or before byte false || b) (sym (step byte))
+      ∙ members.told byte below;
 }
 
-pub outside_one : (class rest after bytes : List ℕ) (low : ℕ) (before now : List Bool) → OutsideSoFar class rest bytes before → length now ≡ length before → Closes low low bytes before now → rest ≡ low ∷ after → ((high : ℕ) (next : List ℕ) → after ≡ 45 ∷ high ∷ next → ⊥) → OutsideSoFar class after bytes now
-outside_one class rest after bytes low before now outside long closes is none = record {
-  same = λ place within stays.
-      let byte = get_or bytes place 0 in
-      let closed = closes place (omega arith) stays in
-      let other : low ≡ byte → ⊥ = λ e. elim closed.1 [ inl below ↦ omega arith | inr above ↦ omega arith ] in
-      in_class-past_one low byte rest after is none other ∙ outside.same place (omega arith) closed.0;
+pub members_range : (class rest after next : List ℕ) (low high : ℕ) (before now : List Bool) → MembersTo class rest before → Adds low high before now → rest ≡ low ∷ after → after ≡ 45 ∷ high ∷ next → MembersTo class next now
+members_range class rest after next low high before now members adds is range =
+    members_more class rest next low high before now members adds (λ c. ap (λ (r : List ℕ). in_class r c) (is ∙ ap (λ (r : List ℕ). low ∷ r) range))
+
+same_range : (low c : ℕ) → eqb low c ≡ (leb low c && leb c low)
+same_range low c = grind (arith, nat_tests)
+
+pub members_one : (class rest after : List ℕ) (low : ℕ) (before now : List Bool) → MembersTo class rest before → Adds low low before now → rest ≡ low ∷ after → ((high : ℕ) (next : List ℕ) → after ≡ 45 ∷ high ∷ next → ⊥) → MembersTo class after now
+members_one class rest after low before now members adds is none =
+    members_more class rest after low low before now members adds (λ c. ap (λ (r : List ℕ). in_class r c) is ∙ in_class-one low c after none ∙ ap (λ (b : Bool). b || in_class after c) (same_range low c))
+
+or_nothing : (b : Bool) → (b || false) ≡ b
+or_nothing true = refl
+or_nothing false = refl
+
+pub members_all : (class rest : List ℕ) (members : List Bool) → MembersTo class rest members → rest ≡ [] → AreMembers class members
+members_all class rest members to ended = λ byte below.
+    sym (or_nothing (get_or members byte false)) ∙ ap (λ (r : List ℕ). get_or members byte false || in_class r byte) (sym ended) ∙ to.told byte below
+
+-- the bytes of a range, as far as they were noted
+pub record AddsTo (low : ℕ) (before now : List Bool) (at : ℕ) : Type 0 where
+  pub told : (byte : ℕ) → byte < 256 → get_or now byte false ≡ (get_or before byte false || (leb low byte && ltb byte at))
+
+none_yet : (b : Bool) (low at byte : ℕ) → at ≤ low → b ≡ (b || (leb low byte && ltb byte at))
+none_yet b low at byte early = sym (ap (λ (t : Bool). b || t) (grind (arith, nat_tests)) ∙ or_nothing b)
+
+pub adds_none : (low start : ℕ) (before : List Bool) → start ≤ low → AddsTo low before before start
+adds_none low start before early = record { told = λ byte below. none_yet (get_or before byte false) low start byte early }
+
+here_now : (b : Bool) (low at : ℕ) → low ≤ at → true ≡ (b || (leb low at && ltb at (at + 1)))
+here_now b low at from = sym (or_right b (leb low at && ltb at (at + 1)) (grind (arith, nat_tests)))
+
+elsewhere : (low at byte : ℕ) → (byte ≡ at → ⊥) → (leb low byte && ltb byte at) ≡ (leb low byte && ltb byte (at + 1))
+elsewhere low at byte other = grind (arith, nat_tests)
+
+pub adds_more : (low at : ℕ) (before now : List Bool) → AddsTo low before now at → low ≤ at → at < length now → AddsTo low before (set now at true) (at + 1)
+adds_more low at before now adds from within = record {
+  told = λ byte below. elim (cases_eq byte at) [
+    | inl same ↦
+        subst (λ (i : ℕ). get_or (set now at true) i false ≡ (get_or before i false || (leb low i && ltb i (at + 1)))) (sym same) (get_or-set_same now at true false within ∙ here_now (get_or before at false) low at from)
+    | inr other ↦ get_or-set_other now at byte true false other ∙ adds.told byte below ∙ ap (λ (t : Bool). get_or before byte false || t) (elsewhere low at byte other)
+  ];
 }
+
+up_to : (low high end byte : ℕ) → byte < 256 → end ≡ min 256 (high + 1) → (leb low byte && ltb byte end) ≡ (leb low byte && leb byte high)
+up_to low high end byte below is = grind (arith, nat_tests)
+
+pub adds_all : (low high end at : ℕ) (before now : List Bool) → AddsTo low before now at → at ≡ end → end ≡ min 256 (high + 1) → Adds low high before now
+adds_all low high end at before now adds last is = λ byte below. adds.told byte below ∙ ap (λ (t : Bool). get_or before byte false || t) (up_to low high at byte below (last ∙ is))
 
 -- places at which the pattern has been walked so far
 pub dead_none : (pattern window : List ℕ) (alive : List Bool) → ((place : ℕ) → place < length alive → get_or alive place false ≡ true) → AreDead pattern window alive
@@ -193,6 +229,10 @@ behind_both pattern text middle left one two = record {
         two.none (place - one.passed) (omega arith) (subst (λ (t : List ℕ). GlobMatches pattern t) there m)
   ];
 }
+
+pub behind_cut : (pattern text rest next : List ℕ) (dead : ℕ) → IsBehindDead pattern text (chars rest) → IsBehindDead pattern (chars rest) (chars (drop dead rest)) → next ≡ drop dead rest → IsBehindDead pattern text (chars next)
+behind_cut pattern text rest next dead before here is =
+    subst (λ (t : List ℕ). IsBehindDead pattern text (chars t)) (sym is) (behind_both pattern text (chars rest) (chars (drop dead rest)) before here)
 
 -- a text whose front is ASCII, by that front
 pub ascii_cut : (text window : List ℕ) (count : ℕ) → IsUtf8 text → window ≡ take count text → IsAscii window → chars text ≡ window ++ chars (drop count text)

@@ -28,6 +28,8 @@ pub mod KeptViews
 pub mod KeptSteps
 mod ItemLemmas
 pub mod SearchLemmas
+pub mod WordLemmas
+pub mod WordPlaces
 pub mod CursorLemmas
 pub mod KeptItems
 pub mod KeptGrown

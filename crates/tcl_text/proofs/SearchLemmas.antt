@@ -3,11 +3,11 @@ use Rattle.std.proofs.Common.{◌≡◌, ℕ, zero, suc, ◌+◌, ◌-◌, ◌<�
 use Rattle.std.specs.Str.{IsCharBoundary}
 use Rattle.std.proofs.lemmas.Bool.{cases_lt, lt-ltb, le-ltb, false_from_ne_true}
 use Rattle.std.proofs.lemmas.List.{drop_more, drop-drop, get_or-drop, length-drop, length-take}
-use Rattle.std.proofs.lemmas.Str.{IsCharBoundary-start, IsCharBoundary-after_ascii}
+use Rattle.std.proofs.lemmas.Str.{IsCharBoundary-start, IsCharBoundary-after_ascii, IsCharBoundary-from_rest, IsUtf8-drop}
 use Rattle.tcl_text.specs.Backslash.{is_white, kind_of, marks}
 use Rattle.tcl_text.specs.Readings.{in_bare, list_of}
 use Rattle.tcl_text.specs.Searching.{has_item}
-use Rattle.tcl_text.specs.SearchSteps.{Passes, or_found}
+use Rattle.tcl_text.specs.SearchSteps.{Passes, PassesFront, or_found}
 use Rattle.tcl_text.specs.Splitting.{ReadsTo, begins_bare_element, items_before}
 use Rattle.tcl_text.proofs.ElementLemmas.{bare_list, list_of-behind, white_kind}
 use Rattle.tcl_text.proofs.IntegerReading.{white_low}
@@ -78,7 +78,7 @@ is_plain Quote = false
 is_plain Backslash = false
 is_plain Other = true
 
-plain_black : (b : ℕ) → is_plain (kind_of b) ≡ true → is_white b ≡ false
+pub plain_black : (b : ℕ) → is_plain (kind_of b) ≡ true → is_white b ≡ false
 plain_black b plain = false_from_ne_true (is_white b) (λ white. let e : false ≡ true = sym (ap is_plain (white_kind b white)) ∙ plain in absurd cc)
 
 plain_no_backslash : (b : ℕ) → is_plain (kind_of b) ≡ true → b ≡ 92 → ⊥
@@ -202,6 +202,31 @@ Passes-front item text rest place found told fits black is =
       told = told ∙ ap (λ (xs : List ℕ). or_found found (has_item item (list_of xs))) (sym is);
       within = omega (arith, ap length is, length-drop place text);
       black = λ some. ap (λ (xs : List ℕ). is_white (get_or xs 0 0)) is ∙ ap is_white (get_or-drop place text 0 0 ∙ ap (λ (k : ℕ). get_or text k 0) count) ∙ black (omega (arith, some, ap length is, length-drop place text));
+    }
+
+-- where an item that isn't plain begins, or the text ends
+pub PassesFront-here : (item text : List ℕ) (start at : ℕ) (found : Bool) → PassesTo item text start at found → at ≤ length text → (at < length text → is_white (get_or text at 0) ≡ false) → PassesFront item text start found
+PassesFront-here item text start at found h fits end =
+    let before : start ≤ at = h.within in
+    record { told = h.told; within = omega arith; black = PassesTo-black item text start at found h end fits; cut = h.cut }
+
+-- or where the search goes on from there
+pub PassesFront-behind : (item text rest : List ℕ) (start at behind : ℕ) (found among : Bool) → PassesTo item text start at found → at ≤ length text → rest ≡ drop start text → PassesFront item rest behind among → PassesFront item text (start + behind) (found || among)
+PassesFront-behind item text rest start at behind found among h fits is next =
+    let before : start ≤ at = h.within in
+    let past : drop behind rest ≡ drop (start + behind) text = ap (drop behind) is ∙ drop-drop behind start text in
+    let long : length rest ≡ length text - start = ap length is ∙ length-drop start text in
+    let within : behind ≤ length rest = next.within in
+    record {
+      told =
+          h.told
+          ∙ ap (λ (xs : List ℕ). or_found found (has_item item (list_of xs))) (sym is)
+          ∙ ap (or_found found) next.told
+          ∙ or_found-or_found found among (has_item item (list_of (drop behind rest)))
+          ∙ ap (λ (xs : List ℕ). or_found (found || among) (has_item item (list_of xs))) past;
+      within = omega arith;
+      black = λ inside. ap is_white (sym (ap (λ (xs : List ℕ). get_or xs behind 0) is ∙ get_or-drop start text behind 0)) ∙ next.black (omega arith);
+      cut = λ utf8. IsCharBoundary-from_rest text start behind (omega arith) (subst (λ (xs : List ℕ). IsCharBoundary xs behind) is (next.cut (subst IsUtf8 (sym is) (IsUtf8-drop text start utf8 (h.cut utf8)))));
     }
 
 pub PassesTo-same : (item text : List ℕ) (start now at : ℕ) (found held : Bool) → PassesTo item text start at found → now ≡ start → held ≡ found → PassesTo item text now at held

@@ -71,14 +71,3 @@ abbrev pub KeepsAllowed : List ℕ → List ℕ → List Bool → List Bool → 
 KeepsAllowed pattern bytes before after =
     (place : ℕ) → place < length before → get_or after place false ≡ false
     → (get_or before place false ≡ false) ⊎ ((rest : List ℕ) → AllowsFirst pattern (slice_index bytes place) rest → ⊥)
-
--- what is open was open, and its byte isn't from low to high
-abbrev pub Closes : ℕ → ℕ → List ℕ → List Bool → List Bool → Type 0
-Closes low high bytes before after =
-    (place : ℕ) → place < length before → get_or after place false ≡ true
-    → (get_or before place false ≡ true) × ((slice_index bytes place < low) ⊎ (high < slice_index bytes place))
-
--- what is open has a byte that the class doesn't have
-abbrev pub IsOutside : List ℕ → List ℕ → List Bool → Type 0
-IsOutside class bytes open_places =
-    (place : ℕ) → place < length open_places → get_or open_places place false ≡ true → in_class class (slice_index bytes place) ≡ false

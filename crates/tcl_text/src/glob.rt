@@ -11,6 +11,9 @@ use crate::characters::{count, find_text, split_characters, split_first_char};
 use crate::glob_places::behind_dead;
 use crate::text::Text;
 
+/// So many places are tried one after another before those that are dead are passed over at once: a match is often near.
+const FEW_TRIES: usize = 8;
+
 impl Text {
     /// Whether the pattern matches the whole text, as `string match` of string(n): `*` stands for any text, `?` for one character,
     /// `[..]` for one of its characters and ranges, `\x` for x itself. The first `]` ends a class, in which a backslash is itself.
@@ -190,7 +193,8 @@ fn match_end<'p, 't>(pattern: &'p str, parts: usize, text: &'t str) -> Option<(&
     match_run(pattern, end)
 }
 
-/// The same of a pattern that matches no fewer characters than so many, up to its next `*`: at the first place that isn't known to be dead, and so on.
+/// The same of a pattern that matches no fewer characters than so many, up to its next `*`. Places are tried one after another, and behind a
+/// few of them those that are dead are passed over.
 fn walk_run<'p, 't>(pattern: &'p str, parts: usize, text: &'t str) -> Option<(&'p str, &'t str)>
     requires { (any : List ℕ) → GlobMatches (chars pattern.now) any → parts ≤ length any }
     ensures found { IfSome result (λ rests.
@@ -201,6 +205,7 @@ fn walk_run<'p, 't>(pattern: &'p str, parts: usize, text: &'t str) -> Option<(&'
     ensures shorter { IfSome result (λ rests. length rests.0.now < length pattern.now + 1) }
 {
     let mut from = text;
+    let mut tried = 0;
     loop {
         if from.len() < parts {
             return None;
@@ -209,7 +214,12 @@ fn walk_run<'p, 't>(pattern: &'p str, parts: usize, text: &'t str) -> Option<(&'
             return Some((rest, left));
         }
         let (_skipped, next) = split_first_char(from)?;
-        from = behind_dead(pattern, parts, next);
+        tried = (tried + 1) % FEW_TRIES;
+        from = if tried == 0 {
+            behind_dead(pattern, parts, next)
+        } else {
+            next
+        };
     }
 }
 
@@ -311,6 +321,8 @@ pub(crate) fn range_end(after: &str) -> Option<(char, &str)>
     ensures none { IfNone result ((high : ℕ) (rest : List ℕ) → chars after.now ≡ minus_sign ∷ high ∷ rest → ⊥) }
     ensures shorter { IfSome result (λ parts. length parts.1.now < length after.now) }
 {
-    let end = after_character(after, '-')?;
-    split_first_char(end)
+    if after.is_empty() || after.as_bytes()[0] != b'-' {
+        return None;
+    }
+    split_first_char(&after[1..])
 }

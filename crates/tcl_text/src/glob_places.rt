@@ -1,9 +1,9 @@
 //! Places of a text at which a pattern's parts may match, many tried at once where their characters are ASCII.
-ghost use Rattle.std.specs.Prelude.{◌≡◌, ◌<◌, ◌≤◌, ◌==◌, ◌&&◌, [], ◌∷◌, ◌++◌, ℕ, List, false, true, not, nat_le, length, drop, get_or, slice_index, IfNone, IfSome};
-ghost use Rattle.std.specs.Str.{chars};
+ghost use Rattle.std.specs.Prelude.{◌≡◌, ◌<◌, ◌≤◌, ◌==◌, ◌&&◌, ◌||◌, [], ◌∷◌, ◌++◌, ℕ, List, false, true, nat_le, length, drop, replicate, get_or, slice_index, IfNone, IfSome};
+ghost use Rattle.std.specs.Str.{chars, IsCharBoundary};
 ghost use Rattle.tcl_text.specs.Bytes.{open_bracket};
-ghost use Rattle.tcl_text.specs.Glob.{AllowsFirst, GlobMatches};
-ghost use Rattle.tcl_text.specs.GlobSteps.{AreDead, Closes, HasPart, IsBehindDead, IsOutside, Keeps, KeepsAllowed, KeepsEqual};
+ghost use Rattle.tcl_text.specs.Glob.{AllowsFirst, GlobMatches, in_class};
+ghost use Rattle.tcl_text.specs.GlobSteps.{AreDead, HasPart, IsBehindDead, Keeps, KeepsAllowed, KeepsEqual};
 
 use crate::characters::split_first_char;
 use crate::glob::range_end;
@@ -11,25 +11,44 @@ use crate::glob::range_end;
 /// How many places are tried at once.
 const PLACES: usize = 256;
 
+/// How many bytes there are.
+const BYTES: usize = 256;
+
 /// Fewer than these are tried one after another.
 const FEW_PLACES: usize = 32;
 
-/// What stands in the text behind places in front at which the pattern, of so many parts up to its next `*`, doesn't match: behind none of them,
-/// where too few are left or a character that they need isn't ASCII. A `?` costs one step for all places, another part one for each.
+/// What stands in the text behind places in front at which the pattern, of so many parts up to its next `*`, doesn't match. It stops where a place may
+/// live, where few are left, and where a character isn't ASCII. A `?` costs one step for all places that are tried at once, another part one for each.
 pub(crate) fn behind_dead<'t>(pattern: &str, parts: usize, text: &'t str) -> &'t str
     ensures dead { IsBehindDead (chars pattern.now) (chars text.now) (chars result.now) }
     ensures shorter { length result.now ≤ length text.now }
 {
+    let mut rest = text;
+    loop {
+        let dead = count_dead(pattern, parts, rest);
+        rest = &rest[dead..];
+        if dead < PLACES {
+            return rest;
+        }
+    }
+}
+
+/// How many of the places in the text's front that are tried at once are dead, up to the first that may not be.
+fn count_dead(pattern: &str, parts: usize, text: &str) -> usize
+    ensures within { result ≤ length text.now }
+    ensures cut { IsCharBoundary text.now result }
+    ensures dead { IsBehindDead (chars pattern.now) (chars text.now) (chars (drop result text.now)) }
+{
     let places = text.len().saturating_sub(parts).min(PLACES);
     if places < FEW_PLACES {
-        return text;
+        return 0;
     }
     let (window, _others) = text.as_bytes().split_at(parts + places);
-    if !window.is_ascii() {
-        return text;
+    if window.is_ascii() {
+        dead_places(pattern, window, places)
+    } else {
+        0
     }
-    let dead = dead_places(pattern, window, places);
-    &text[dead..]
 }
 
 /// How many of so many places at the window's front are dead, up to the first that may not be.
@@ -83,8 +102,7 @@ fn keep_matching(pattern: &str, window: &[u8], alive: &mut [bool])
 /// Keeps the places alive whose byte the pattern's first part allows. Answers what follows the part, and whether a place lives; none where the
 /// pattern has no part in front, or one that has no end.
 fn keep_allowed<'p>(pattern: &'p str, bytes: &[u8], alive: &mut [bool]) -> Option<(&'p str, bool)>
-    requires same { length alive.old ≡ length bytes.now }
-    requires few { length bytes.now ≤ PLACES }
+    requires { length alive.old ≡ length bytes.now }
     ensures part { IfSome result (λ kept. HasPart (chars pattern.now)) }
     ensures behind { IfSome result (λ kept. (character : ℕ) (other : List ℕ)
         → AllowsFirst (chars pattern.now) character other → other ≡ chars kept.0.now) }
@@ -131,88 +149,57 @@ fn keep_byte(wanted: u8, bytes: &[u8], alive: &mut [bool]) -> bool
 
 /// The same by the class whose text this is up to the first `]`.
 fn keep_by_class<'p>(text: &'p str, bytes: &[u8], alive: &mut [bool]) -> Option<(&'p str, bool)>
-    requires same { length alive.old ≡ length bytes.now }
-    requires few { length bytes.now ≤ PLACES }
+    requires { length alive.old ≡ length bytes.now }
     ensures behind { IfSome result (λ kept. (character : ℕ) (other : List ℕ)
         → AllowsFirst (open_bracket ∷ chars text.now) character other → other ≡ chars kept.0.now) }
     ensures kept { KeepsAllowed (open_bracket ∷ chars text.now) bytes.now alive.old alive.new }
     ensures left { IfNone result (alive.new ≡ alive.old) }
 {
     let (class, rest) = text.split_once(']')?;
-    let mut all = [true; PLACES];
-    let still_open = &mut all[..bytes.len()];
-    still_open.copy_from_slice(alive);
-    if !close_class(class, bytes, still_open) {
-        return Some((rest, true));
-    }
-    Some((rest, keep_closed(still_open, alive)))
+    let mut members = [false; BYTES];
+    note_members(class, &mut members);
+    Some((rest, keep_members(&members, bytes, alive)))
 }
 
-/// Closes the places whose byte the class has. Answers whether it looked at the whole class; else none is left open.
-fn close_class(class: &str, bytes: &[u8], still_open: &mut [bool]) -> bool
-    requires { length still_open.old ≡ length bytes.now }
-    ensures { result ≡ true → IsOutside (chars class.now) bytes.now still_open.new }
+/// Notes which bytes, as characters, the class has, where none was noted before.
+fn note_members(class: &str, members: &mut [bool; BYTES])
+    requires { members.old ≡ replicate 256 false }
+    ensures { (byte : ℕ) → byte < 256 → get_or members.new byte false ≡ in_class (chars class.now) byte }
 {
     let mut rest = class;
     while let Some((low, after)) = split_first_char(rest) {
         match range_end(after) {
             Some((high, next)) => {
-                if !close_range(low, high, bytes, still_open) {
-                    return false;
-                }
+                note_range(low, high, members);
                 rest = next;
             }
             None => {
-                if !close_range(low, low, bytes, still_open) {
-                    return false;
-                }
+                note_range(low, low, members);
                 rest = after;
             }
         }
     }
-    true
 }
 
-/// Closes the places whose byte is from `low` to `high`, and answers whether one is left open.
-fn close_range(low: char, high: char, bytes: &[u8], still_open: &mut [bool]) -> bool
-    requires { length still_open.old ≡ length bytes.now }
-    ensures { Closes low high bytes.now still_open.old still_open.new }
+/// Notes those from `low` to `high` too.
+fn note_range(low: char, high: char, members: &mut [bool; BYTES])
+    ensures { (byte : ℕ) → byte < 256
+        → get_or members.new byte false ≡ (get_or members.old byte false || (nat_le low byte && nat_le byte high)) }
 {
-    if low > '\u{FF}' {
-        return true;
+    let end = BYTES.min(high as usize + 1);
+    for byte in end.min(low as usize)..end {
+        members[byte] = true;
     }
-    close_bytes(low as u8, highest_byte(high), bytes, still_open)
 }
 
-/// The highest byte that isn't above the character.
-fn highest_byte(high: char) -> u8
-    ensures { (byte : ℕ) → byte < 256 → result < byte → high < byte }
-{
-    if high > '\u{FF}' { 255 } else { high as u8 }
-}
-
-fn close_bytes(low: u8, high: u8, bytes: &[u8], still_open: &mut [bool]) -> bool
-    requires { length still_open.old ≡ length bytes.now }
-    ensures { Keeps (λ place. not (nat_le low (slice_index bytes.now place) && nat_le (slice_index bytes.now place) high)) still_open.old still_open.new }
-{
-    let mut some = false;
-    for at in 0..still_open.len() {
-        let byte = bytes[at];
-        let stays = still_open[at] & !((low <= byte) & (byte <= high));
-        still_open[at] = stays;
-        some |= stays;
-    }
-    some
-}
-
-/// Keeps the places alive that aren't open, and answers whether a place lives.
-fn keep_closed(still_open: &[bool], alive: &mut [bool]) -> bool
-    requires { length alive.old ≡ length still_open.now }
-    ensures { Keeps (λ place. not (get_or still_open.now place false)) alive.old alive.new }
+/// Keeps the places alive whose byte is a member, and answers whether a place lives.
+fn keep_members(members: &[bool; BYTES], bytes: &[u8], alive: &mut [bool]) -> bool
+    requires { length alive.old ≡ length bytes.now }
+    ensures { Keeps (λ place. get_or members.now (slice_index bytes.now place) false) alive.old alive.new }
 {
     let mut some = false;
     for at in 0..alive.len() {
-        let lives = alive[at] & !still_open[at];
+        let lives = alive[at] & members[bytes[at] as usize];
         alive[at] = lives;
         some |= lives;
     }

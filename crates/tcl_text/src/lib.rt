@@ -27,6 +27,7 @@ mod short;
 mod splitting;
 mod text;
 mod white_space;
+mod word_places;
 
 pub use backslash::{Escape, Meaning, escape_behind};
 pub use commands::{TextCommand, answers, integers, items};

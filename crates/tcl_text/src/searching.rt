@@ -1,16 +1,21 @@
 //! Searches of a list for an item.
-ghost use Rattle.std.specs.Prelude.{◌≡◌, ◌<◌, ◌≤◌, ◌&&◌, false, nat_lt, bytes_eq, drop, length, IsUtf8, slice_index};
-ghost use Rattle.std.specs.Str.{IsCharBoundary};
+ghost use Rattle.std.specs.Prelude.{◌≡◌, ◌-◌, ◌<◌, ◌≤◌, ◌&&◌, ℕ, true, false, nat_lt, bytes_eq, length, slice_index};
 ghost use Rattle.tcl_text.specs.Backslash as backslash;
 ghost use Rattle.tcl_text.specs.Limits.{most_bytes};
 ghost use Rattle.tcl_text.specs.Readings.{list_of};
-ghost use Rattle.tcl_text.specs.SearchSteps.{Passes, or_found};
+ghost use Rattle.tcl_text.specs.SearchSteps.{Passes, PassesFront};
 ghost use Rattle.tcl_text.specs.Searching.{Tells, has_item};
 
 use crate::fault::SplitFault;
 use crate::splitting::{ByteKind, front_element, kind};
 use crate::text::Text;
+use crate::white_space::is_white;
+use crate::word_places::has_word;
+use memchr::memchr3;
 use std::alloc::Global;
+
+/// So many bytes of a list are looked at one by one, and those behind them many at once.
+const FEW_BYTES: usize = 64;
 
 /// Whether a word of a list, if it is one, is the item.
 #[inline]
@@ -22,14 +27,15 @@ fn is_item(word: &[u8], item: &[u8]) -> bool
 
 /// Behind how many bytes a list goes on with an item that isn't just plain bytes, or with its last, and whether one of those in front equals a text.
 fn plain_len(text: &[u8], item: &[u8]) -> (usize, bool)
-    ensures told { has_item item.now (list_of text.now) ≡ or_found result.1 (has_item item.now (list_of (drop result.0 text.now))) }
-    ensures within { result.0 ≤ length text.now }
-    ensures black { result.0 < length text.now → backslash.is_white (slice_index text.now result.0) ≡ false }
-    ensures cut { IsUtf8 text.now → IsCharBoundary text.now result.0 }
+    ensures { PassesFront item.now text.now result.0 result.1 }
 {
     let mut start = 0;
     let mut found = false;
     for (at, byte) in text.iter().enumerate() {
+        if at == FEW_BYTES {
+            let (behind, among) = searched_len(&text[start..], item);
+            return (start + behind, found | among);
+        }
         match kind(*byte) {
             ByteKind::White => {
                 found |= is_item(&text[start..at], item);
@@ -42,6 +48,28 @@ fn plain_len(text: &[u8], item: &[u8]) -> (usize, bool)
     (start, found)
 }
 
+/// The same, of many bytes.
+fn searched_len(text: &[u8], item: &[u8]) -> (usize, bool)
+    ensures { PassesFront item.now text.now result.0 result.1 }
+{
+    let plain = memchr3(b'{', b'"', b'\\', text).unwrap_or(text.len());
+    let start = words_len(&text[..plain]);
+    (start, has_word(&text[..start], item))
+}
+
+/// How many bytes there are up to the last white one.
+fn words_len(text: &[u8]) -> usize
+    ensures within { result ≤ length text.now }
+    ensures white { 0 < result → backslash.is_white (slice_index text.now (result - 1)) ≡ true }
+    ensures black { (at : ℕ) → result ≤ at → at < length text.now → backslash.is_white (slice_index text.now at) ≡ false }
+{
+    let mut end = text.len();
+    while end > 0 && !is_white(text[end - 1]) {
+        end -= 1;
+    }
+    end
+}
+
 /// What is left of a list behind white space and items of plain bytes, and whether one of these equals a text.
 fn plain_front<'a>(text: &'a str, item: &str) -> (&'a str, bool)
     ensures { Passes item.now text.now result.0.now result.1 }
@@ -50,12 +78,23 @@ fn plain_front<'a>(text: &'a str, item: &str) -> (&'a str, bool)
     (&text[place..], found)
 }
 
+/// The same of a whole list. A long one is searched at once; that this is done in two places also keeps it out of the code for a few bytes.
+fn list_front<'a>(text: &'a str, item: &str) -> (&'a str, bool)
+    ensures { Passes item.now text.now result.0.now result.1 }
+{
+    if text.len() < FEW_BYTES {
+        return plain_front(text, item);
+    }
+    let (place, found) = searched_len(text.as_bytes(), item.as_bytes());
+    (&text[place..], found)
+}
+
 /// Whether an item of the list that the text is equals another text. It reads the list to its end, and keeps nothing of it.
 pub fn is_among(alloc: Global, text: &str, item: &str) -> Result<bool, SplitFault>
     requires { length text.now ≤ most_bytes }
     ensures { Tells result (has_item item.now (list_of text.now)) }
 {
-    let (mut rest, mut found) = plain_front(text, item);
+    let (mut rest, mut found) = list_front(text, item);
     while !rest.is_empty() {
         let (element, behind) = front_element(alloc, rest)?;
         found |= element.as_str() == item;

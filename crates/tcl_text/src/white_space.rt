@@ -1,5 +1,5 @@
 ghost use Rattle.std.specs.Prelude.{◌≡◌};
-ghost use Rattle.std.specs.List.{list_all};
+ghost use Rattle.std.specs.List.{list_all, list_any};
 ghost use Rattle.tcl_text.specs.Backslash as backslash;
 ghost use Rattle.tcl_text.specs.Readings as readings;
 
@@ -38,4 +38,11 @@ pub fn is_blank(text: &[u8]) -> bool
     ensures { result ≡ list_all backslash.is_white text.now }
 {
     text.iter().all(|byte| is_white(*byte))
+}
+
+/// Whether white space stands among the bytes.
+pub fn has_white(text: &[u8]) -> bool
+    ensures { result ≡ list_any backslash.is_white text.now }
+{
+    text.iter().any(|byte| is_white(*byte))
 }

@@ -4,7 +4,7 @@ use Rattle.tcl_text.proofs.SearchLemmas.{Passes-item, Passes-end}
 use Rattle.tcl_text.proofs.searching.is_among.Goals as goal
 
 pub loop-item-init : goal.loop-item-init
-loop-item-init c = record { passes = c.plain_front-found.ensures; utf8 = search rules }
+loop-item-init c = record { passes = c.list_front-found.ensures; utf8 = search rules }
 
 pub loop-item-smaller : goal.loop-item-smaller
 loop-item-smaller c =

@@ -1,5 +1,6 @@
 use Rattle.std.proofs.Common.{◌≡◌, ◌+◌, ◌<◌, ◌||◌, ℕ, true, List, get_or, length, inl, inr, ap, arith}
-use Rattle.tcl_text.proofs.SearchLemmas.{PassesTo-start, PassesTo-white, PassesTo-plain, PassesTo-same, PassesTo-black, is_plain, no_white, is_white_of, plain_of}
+use Rattle.std.proofs.lemmas.List.{take_rest}
+use Rattle.tcl_text.proofs.SearchLemmas.{PassesTo-start, PassesTo-white, PassesTo-plain, PassesTo-same, PassesFront-here, PassesFront-behind, is_plain, no_white, is_white_of, plain_of}
 use Rattle.tcl_text.proofs.searching.plain_len.Goals as goal
 use Rattle.tcl_text.proofs.searching.plain_len.Goals.{in-White, in-CloseBrace}
 
@@ -25,11 +26,16 @@ loop-at-preserved c =
           PassesTo-same item text start c.match-kind.start (at + 1) found c.match-kind.found (PassesTo-plain item text start at found c.loop-at.invariant (plain_of byte c.kind.result c.kind.ensures plain)) w.start-is w.found-is
     ]
 
-pub returns-in_default-clause-black : goal.returns-in_default-clause-black
-returns-in_default-clause-black c =
-    PassesTo-black c.args.item.now c.args.text.now c.loop-at.start c.loop-at.at c.loop-at.found c.loop-at.invariant
-    (λ _. no_white (get_or c.args.text.now c.loop-at.at 0) c.kind.result c.kind.ensures c.in_default.not-White) (omega arith)
+pub returns-then-at-eq-FEW_BYTES : goal.returns-then-at-eq-FEW_BYTES
+returns-then-at-eq-FEW_BYTES c =
+    let text : List ℕ = c.args.text.now in
+    PassesFront-behind c.args.item.now text _ c.loop-at.start c.loop-at.at c.searched_len-behind.result.0 c.loop-at.found c.searched_len-behind.result.1
+    c.loop-at.invariant (omega arith) (take_rest text c.loop-at.start) c.searched_len-behind.ensures
 
-pub returns-clause-black : goal.returns-clause-black
-returns-clause-black c =
-    PassesTo-black c.args.item.now c.args.text.now c.loop-at.start c.loop-at.at c.loop-at.found c.loop-at.invariant (λ inside. absurd (omega arith)) (omega arith)
+pub returns-in_default : goal.returns-in_default
+returns-in_default c =
+    PassesFront-here c.args.item.now c.args.text.now c.loop-at.start c.loop-at.at c.loop-at.found c.loop-at.invariant (omega arith)
+    (λ _. no_white (get_or c.args.text.now c.loop-at.at 0) c.kind.result c.kind.ensures c.in_default.not-White)
+
+pub returns : goal.returns
+returns c = PassesFront-here c.args.item.now c.args.text.now c.loop-at.start c.loop-at.at c.loop-at.found c.loop-at.invariant (omega arith) (λ inside. absurd (omega arith))

@@ -1,6 +1,6 @@
 use Rattle.std.proofs.Common.{arith}
 use Rattle.tcl_text.proofs.GlobPlaces.{kept_none, kept_more, kept_all}
-use Rattle.tcl_text.proofs.glob_places.keep_closed.Goals as goal
+use Rattle.tcl_text.proofs.glob_places.keep_members.Goals as goal
 
 pub loop-at-init : goal.loop-at-init
 loop-at-init c = kept_none _ _

@@ -168,7 +168,7 @@ impl Dispatch {
     }
 
     fn pop(&mut self, alloc: Global, owner: &str) -> Result<String> {
-        match self.queue.pop(number(owner)?) {
+        match self.queue.pop(number(owner)?)? {
             Some(event) => Ok(format!(in alloc; "={}", event.moment)?),
             None => result_of(alloc, "-"),
         }

@@ -1,18 +1,11 @@
 -- Scripts that are kept under their tags.
-use Rattle.std.proofs.Common.{◌≡◌, ℕ, List, Bool, true, false, cond, Option, Some, None, Ok, IfSome, Bor, bytes_eq, refl, sym, ap, subst, ◌∙◌}
+use Rattle.std.proofs.Common.{◌≡◌, ℕ, List, Bool, true, false, cond, Option, Some, Ok, IfSome, Bor, bytes_eq, refl, sym, ap, subst, ◌∙◌}
 use Rattle.std.specs.HashMap.{HashMap, Updates, get}
-use Rattle.std.specs.Option.{option_copied}
 use Rattle.std.proofs.lemmas.Slice.Eq.{bytes_eq-Decides}
 use Rattle.tcl_text.specs.Answers.{Answer}
 use Rattle.tk_dispatch.specs.Made.{AreMade}
 
 module _ {S : Type 0} (script_of : List ℕ → Option Answer) where
-  -- what is found is the script of its tag
-  pub found_made : (made : HashMap (Bor (List ℕ)) (List ℕ) S) (tag : Bor (List ℕ)) (found : Option (Bor (List ℕ))) → AreMade script_of made
-      → option_copied found ≡ get (λ x y. bytes_eq x.now y.now) made tag → IfSome found (λ script. script_of tag.now ≡ Some (Ok script.now))
-  found_made made tag None are is = tt
-  found_made made tag (Some script) are is = subst (λ found. IfSome found (λ script. script_of tag.now ≡ Some (Ok script))) (sym is) (are tag)
-
   -- one more is kept, under its tag
   pub kept_made : (old new : HashMap (Bor (List ℕ)) (List ℕ) S) (key : Bor (List ℕ)) (script : List ℕ) → Updates (λ x y. bytes_eq x.now y.now) old new key (Some script)
       → script_of key.now ≡ Some (Ok script) → AreMade script_of old → AreMade script_of new

@@ -4,4 +4,5 @@ pub mod Histories
 pub mod Made
 pub mod Percent
 pub mod Queue
+pub mod Queued
 pub mod Substitution

@@ -152,9 +152,6 @@ fn script_of(
         (meanings_of choice.now.virtuals.now) (bindings_of.own_of choice.now.owner choice.now.bindings.now)
         choice.now.history.now choice.now.event.now tag.now) }
 {
-    if !is_live(choice.windows, choice.owner, tag) {
-        return Ok(None);
-    }
     let winner = choice.bindings.winner(
         choice.owner,
         tag,
@@ -162,9 +159,12 @@ fn script_of(
         choice.history,
         choice.virtuals,
     )?;
+    // (most tags have none, and whether a path's window is there takes a look-up)
     match winner {
-        Some(script) => Ok(Some(with_fields(alloc, &script, choice.event)?)),
-        None => Ok(None),
+        Some(script) if is_live(choice.windows, choice.owner, tag) => {
+            Ok(Some(with_fields(alloc, &script, choice.event)?))
+        }
+        _ => Ok(None),
     }
 }
 

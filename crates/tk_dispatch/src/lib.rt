@@ -2,14 +2,18 @@
 //! runs. And the histories of all applications.
 #![tactic(auto)]
 
+mod commons;
 mod dispatch;
 mod field;
 mod histories;
 mod made;
 mod numbers;
 mod own;
+mod page;
+mod pages;
 mod push;
 mod queue;
+mod queued;
 mod substitution;
 mod tag;
 

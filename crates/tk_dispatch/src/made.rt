@@ -7,7 +7,8 @@ use std::alloc::AllocError;
 use std::collections::HashMap;
 use tcl_text::Text;
 
-/// From how many bytes on a script is long. A shorter one is made for each tag: those of all tags take at most 32 MiB.
+/// From how many bytes on a script is long. A shorter one is made for each tag: those of all tags have at most 32 MiB of characters, in some 71 MB
+/// of memory, since a text that grew by its fields has up to twice its room.
 const LONG: usize = 1_024;
 
 /// The script that was made for a tag of this name, found by hashing.

@@ -1,4 +1,4 @@
-ghost use Rattle.std.specs.Prelude.{◌≡◌, [], ◌∷◌, ◌++◌, OnOk, OnErr, MatchOption, length};
+ghost use Rattle.std.specs.Prelude.{◌≡◌, [], ◌∷◌, ◌++◌, OnOk, OnErr, IfOk, MatchOption, length};
 ghost use Rattle.tk_dispatch.specs.Queue.{own_of, LeavesOthers, LeavesAll};
 
 use crate::own::OwnEvents;
@@ -73,13 +73,18 @@ impl EventQueue {
         }
     }
 
-    /// Takes out the application's next event; none where nothing waits. It takes no memory.
-    pub fn pop(&mut self, owner: usize) -> Option<Event>
-        ensures event { MatchOption result ((own_of owner self.old ≡ []) × (own_of owner self.new ≡ []))
-            (λ event. own_of owner self.old ≡ event ∷ own_of owner self.new) }
+    /// Takes out the application's next event; none where nothing waits. It takes no memory; it is refused only where the count of a shared
+    /// text is full.
+    pub fn pop(&mut self, owner: usize) -> Result<Option<Event>, AllocError>
+        ensures event { IfOk result (λ popped. MatchOption popped ((own_of owner self.old ≡ []) × (own_of owner self.new ≡ []))
+            (λ event. own_of owner self.old ≡ event ∷ own_of owner self.new)) }
         ensures others { LeavesOthers owner self.old self.new }
+        ensures err { OnErr result (LeavesAll self.old self.new) }
     {
-        self.owners.get_mut(&owner)?.pop()
+        match self.owners.get_mut(&owner) {
+            Some(own) => own.pop(),
+            None => Ok(None),
+        }
     }
 
     /// How many events wait for the application. It takes no memory.

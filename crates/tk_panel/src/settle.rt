@@ -17,13 +17,16 @@ fn drain(tables: &mut Tables, slot: usize) -> Result<Scripts, AllocError>
     ensures own { IfOk result (λ scripts. (panel_of slot tables.new, scripts) ≡ drained (panel_of slot tables.old).queue (panel_of slot tables.old)) }
     ensures others { LeavesOthers slot tables.old tables.new }
 {
-    while let Some(event) = tables.queue.pop(slot) {
-        let scripts = choose(tables, slot, event)?;
+    loop {
+        let scripts = match tables.queue.pop(slot) {
+            Ok(Some(event)) => choose(tables, slot, event)?,
+            Ok(None) => return Ok(Scripts::none(tables.alloc)),
+            Err(refused) => return Err(refused),
+        };
         if scripts.next().is_some() {
             return Ok(scripts);
         }
     }
-    Ok(Scripts::none(tables.alloc))
 }
 
 /// Whether a timer is due by the moment.

@@ -1,4 +1,4 @@
--- Meaning. The commands of global(n) and upvar(n), with the frame that is linked to given by its level.
+-- Meaning. The commands of global(n) and upvar(n), with the frame that is linked to given by its number.
 use Rattle.std.specs.Prelude.{ℕ, ◌==◌, nat_eq, if◌then◌else◌, List, [], ◌∷◌, length, drop, is_none, Result, Ok, Err, codes, ◌%◌}
 use Rattle.std.specs.List.{starts_with}
 use Rattle.tcl_text.specs.Answers.{wrong_args}

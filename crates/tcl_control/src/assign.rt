@@ -84,7 +84,8 @@ fn assign_group(
     )
 }
 
-/// Gives the names of groups the items of an iteration, and takes these.
+/// Gives the names of groups the items of an iteration, and takes these. Where a name can't be set, or memory is refused, the groups
+/// in front are taken already, and the one at hand in part: they are of no more use.
 pub fn assign_groups(
     alloc: Global,
     scopes: &mut Scopes,

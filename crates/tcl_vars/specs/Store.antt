@@ -37,7 +37,7 @@ with_content store place content = slice_set store place.frame (with_value (fram
 
 -- Links
 
--- the level and the name that a link gives
+-- the number of the frame and the name that a link gives
 abbrev pub link_of : Option Content → Option (ℕ × List ℕ)
 link_of None = None
 link_of (Some (Scalar text)) = None

@@ -7,7 +7,7 @@ use crate::words::{texts_of, word_of};
 use anyhow::{Result, bail};
 use asking::{number, result_of, words_of};
 use std::alloc::Global;
-use tcl_text::{Text, TextList};
+use tcl_text::{Text, TextFault, TextList};
 use tk_sequences::VirtualName;
 use tk_virtual::{VirtualFault, VirtualTable};
 
@@ -47,6 +47,14 @@ impl Virtuals {
         }
     }
 
+    fn names(&self, alloc: Global, owner: usize) -> Result<String> {
+        match self.table.info(alloc, owner) {
+            Ok(names) => barred(alloc, &names),
+            Err(TextFault::TooLong) => Ok(format!(in alloc; "!4")?),
+            Err(TextFault::NoMemory) => bail!("out of memory"),
+        }
+    }
+
     fn sequences(&self, alloc: Global, owner: usize, name: &Text) -> Result<String> {
         let Some(name) = VirtualName::parse(alloc, name)? else {
             bail!("no name of a virtual event");
@@ -76,7 +84,7 @@ impl Virtuals {
     /// What a question is answered.
     pub fn answer(&mut self, alloc: Global, question: &str) -> Result<String> {
         match words_of(alloc, question, ' ')?.as_slice() {
-            ["names", owner] => barred(alloc, &self.table.info(alloc, number(owner)?)?),
+            ["names", owner] => self.names(alloc, number(owner)?),
             [what, owner, name, sequences @ ..] => {
                 self.named(alloc, what, number(owner)?, name, sequences)
             }

@@ -1,19 +1,20 @@
 //! The command `event` without `generate`.
 ghost use Rattle.std.specs.Prelude.{◌≡◌, IfOk, OnErr, Ok, Err};
-ghost use Rattle.tcl_text.specs.Answers.{Gives};
+ghost use Rattle.tcl_text.specs.Answers.{Gives, answers};
+ghost use Rattle.tcl_text.specs.Readings.{list_form};
 ghost use Rattle.tk_bind_commands.specs.Event as spec;
 ghost use Rattle.tk_bind_commands.specs.Steps.{IsRefusal};
 ghost use Rattle.tk_bind_commands.specs.Words.{or_virtual_fault};
 ghost use Rattle.tk_sequences.specs.Words.{name_in};
-ghost use Rattle.tk_virtual.specs.Virtual.{name_or_fault};
+ghost use Rattle.tk_virtual.specs.Virtual.{name_or_fault, written_names};
 ghost use Rattle.tk_virtual.specs.Shared.{LeavesOthers, own_of};
 
 use crate::answers::{virtual_refusal, virtual_refused};
 use std::alloc::{AllocError, Global};
-use tcl_text::Text;
-use tcl_text::answers::{Refusal, answered, bad_option, wrong_args};
+use tcl_text::answers::{Refusal, answered, bad_option, limit_reached, wrong_args};
 use tcl_text::items::list_answer;
 use tcl_text::message::Answer;
+use tcl_text::{Text, TextFault};
 use tk_sequences::VirtualName;
 use tk_virtual::{VirtualFault, VirtualTable, name_meant};
 
@@ -129,12 +130,21 @@ pub fn event_info(
     ensures { Gives result (spec.info_words words.now (own_of slot virtuals.now)) }
 {
     match words {
-        [] => {
-            let names = virtuals.info(alloc, slot)?;
-            list_answer(alloc, names.as_slice())
-        }
+        [] => names_answer(alloc, virtuals, slot),
         [name] => sequences_answer(alloc, virtuals, slot, name),
         _ => wrong_args(alloc, "event info ?<<name>>?"),
+    }
+}
+
+/// The names that have pairs, or the error of a value past 65,536 bytes (4).
+#[tactic(auto, using(tcl_text::proofs::AnswerLemmas::bounds))]
+fn names_answer(alloc: Global, virtuals: &VirtualTable, slot: usize) -> Result<Text, Refusal>
+    ensures { Gives result (answers (list_form (written_names (own_of slot virtuals.now)))) }
+{
+    match virtuals.info(alloc, slot) {
+        Ok(names) => list_answer(alloc, names.as_slice()),
+        Err(TextFault::TooLong) => Err(limit_reached(alloc)),
+        Err(TextFault::NoMemory) => Err(Refusal::NoMemory),
     }
 }
 

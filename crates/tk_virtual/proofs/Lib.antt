@@ -1,5 +1,7 @@
 pub mod ClassLemmas
-pub mod NameLemmas
+pub mod EntryLemmas
+pub mod FirstLemmas
+pub mod FormLemmas
 pub mod NamedLemmas
 pub mod OnceLemmas
 pub mod PairLemmas

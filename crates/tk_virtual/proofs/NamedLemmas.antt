@@ -47,13 +47,13 @@ kept_none p q fails (pair ∷ pairs) = by (p pair) (q pair) refl refl (fails pai
     by true false first second h rest = ap (λ t. cond t (pair ∷ filter q (filter p pairs)) (filter q (filter p pairs))) second ∙ rest
     by false b first second h rest = rest
 
-of_name : (name : List ℕ) (pair : Pair) → has_name name pair ≡ true → pair.name ≡ name
+pub of_name : (name : List ℕ) (pair : Pair) → has_name name pair ≡ true → pair.name ≡ name
 of_name name pair has = (bytes_eq-Decides pair.name name).0 has
 
 same_name : (name : List ℕ) → bytes_eq name name ≡ true
 same_name name = (bytes_eq-Decides name name).1 refl
 
-differs : (x y : List ℕ) → x ≢ y → bytes_eq x y ≡ false
+pub differs : (x y : List ℕ) → x ≢ y → bytes_eq x y ≡ false
 differs x y apart = by (bytes_eq x y) refl
   where
     by : (t : Bool) → bytes_eq x y ≡ t → t ≡ false

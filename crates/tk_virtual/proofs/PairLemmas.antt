@@ -45,15 +45,15 @@ without_last pair (other ∷ pairs) none = by (is_same pair other) none (without
     by true none rest = absurd (cc)
     by false none rest = ap (λ (l : List Pair). other ∷ l) (rest none)
 
-pub but_last : (pair : Pair) (old new : List Pair) → old ≡ new ++ pair ∷ [] → new ≡ take (length old - 1) old
-but_last pair old new is =
-    let count : length old - 1 ≡ length new = omega (arith, ap length is, length-append new (pair ∷ [])) in
-    sym (ap (λ n. take n old) count ∙ ap (take (length new)) is ∙ take-append_seam new (pair ∷ []))
+pub but_last : {X : Type 0} (last : X) (old new : List X) → old ≡ new ++ last ∷ [] → new ≡ take (length old - 1) old
+but_last last old new is =
+    let count : length old - 1 ≡ length new = omega (arith, ap length is, length-append new (last ∷ [])) in
+    sym (ap (λ n. take n old) count ∙ ap (take (length new)) is ∙ take-append_seam new (last ∷ []))
 
 -- the last is taken out again
-pub popped : (pair : Pair) (old whole new : List Pair) (last : Option Pair) → whole ≡ old ++ pair ∷ [] → whole ≡ new ++ option_to_list last → IsSome last → new ≡ old
-popped pair old whole new None is cut some = absurd (cc)
-popped pair old whole new (Some other) is cut some = but_last other whole new cut ∙ sym (but_last pair whole old is)
+pub popped : {X : Type 0} (one : X) (old whole new : List X) (last : Option X) → whole ≡ old ++ one ∷ [] → whole ≡ new ++ option_to_list last → IsSome last → new ≡ old
+popped one old whole new None is cut some = absurd (cc)
+popped one old whole new (Some other) is cut some = but_last other whole new cut ∙ sym (but_last one whole old is)
 
 -- there is no last
 pub none_last : (old new : List Pair) → old ≡ new ++ [] → (0 < length old → ⊥) → new ≡ take (length old - 1) old

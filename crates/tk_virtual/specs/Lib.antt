@@ -1,6 +1,7 @@
 -- What the contracts cite.
 pub mod Classes
 pub mod FaultTexts
+pub mod First
 pub mod Named
 pub mod Parse
 pub mod Shared

@@ -4,6 +4,7 @@
 mod class;
 mod classes;
 mod fault;
+mod first;
 mod list;
 mod named;
 mod pair;

@@ -1,22 +1,21 @@
 //! The pairs of one application.
-ghost use Rattle.std.specs.Prelude.{◌≡◌, ◌≢◌, ℕ, ◌-◌, false, [], ◌∷◌, ◌++◌, length, take, map, filter, IfOk, IfErr, OnOk, OnErr, Ok, Err};
+ghost use Rattle.std.specs.Prelude.{◌≡◌, ◌≢◌, ℕ, ◌-◌, ◌<◌, false, [], ◌∷◌, ◌++◌, length, take, map, filter, IfOk, IfErr, OnOk, OnErr, Ok, Err};
 ghost use Rattle.std.specs.List.{IsDistinct, list_any};
-ghost use Rattle.tk_sequences.specs.Words.{in_brackets};
+ghost use Rattle.tcl_text.specs.Limits.{most_bytes};
+ghost use Rattle.tcl_text.specs.Readings.{list_form};
 ghost use Rattle.tk_sequences.specs.Writing.{canonical};
 ghost use Rattle.tk_virtual.specs.Classes.{is_of_class};
-ghost use Rattle.tk_virtual.specs.Named.{names_in};
-ghost use Rattle.tk_virtual.specs.Virtual.{added, all_added, has_name, is_same, with_name, with_pair, without_name, without_pair, written_names, written_of};
+ghost use Rattle.tk_virtual.specs.Virtual.{added, all_added, has_name, is_same, with_pair, without_name, without_pair, written_names, written_of};
 
 use crate::class::sequence_class;
 use crate::classes::{delete_name_in, file_in, take_last_in, take_out_in};
 use crate::fault::VirtualFault;
 use crate::list::PairList;
 use crate::pair::{Pair, pair_meant};
-use indexmap::IndexSet;
 use std::alloc::{AllocError, Global};
 use std::collections::HashMap;
 use std::marker::Model;
-use tcl_text::{Text, TextList};
+use tcl_text::{Text, TextFault, TextList};
 use tk_sequences::VirtualName;
 
 /// How many pairs an application has at most.
@@ -214,16 +213,13 @@ impl VirtualPairs {
         take_out_in(&mut self.classes, class, wanted);
     }
 
-    /// The names that have pairs, in their brackets, each where it first stands (`event info` of event(n)).
-    pub fn names(&self, alloc: Global) -> Result<TextList, AllocError>
-        ensures { IfOk result (λ list. list ≡ written_names self.now) }
+    /// The names that have pairs, in their brackets, each where it first stands (`event info` of event(n)). `TooLong` where their list passes
+    /// 65,536 bytes by its names alone; none is copied then.
+    pub fn names(&self, alloc: Global) -> Result<TextList, TextFault>
+        ensures ok { IfOk result (λ list. list ≡ written_names self.now) }
+        ensures too_long { IfErr result (λ fault. fault ≢ TextFault.NoMemory → most_bytes < length (list_form (written_names self.now))) }
     {
-        let mut told = IndexSet::new(alloc);
-        let mut list = TextList::new(alloc);
-        for pair in self.all() {
-            tell_name(alloc, &mut told, &mut list, pair)?;
-        }
-        Ok(list)
+        self.pairs.names(alloc)
     }
 
     /// The sequences of a name in their canonical form, in the order in which they were added (`event info <<name>>` of event(n)).
@@ -243,22 +239,6 @@ fn written_forms(alloc: Global, pairs: &[Pair]) -> Result<TextList, AllocError>
         list.push(pair.sequence.canonical().copy()?)?;
     }
     Ok(list)
-}
-
-/// Tells the name of a pair, unless it was told. By hashing: no name is compared with all that were told.
-fn tell_name<'a>(
-    alloc: Global,
-    told: &mut IndexSet<&'a str>,
-    list: &mut TextList,
-    pair: &'a Pair,
-) -> Result<(), AllocError>
-    ensures told { OnOk result (names_in told.new.keys ≡ with_name (names_in told.old.keys) pair.now) }
-    ensures list { OnOk result (list.old ≡ map in_brackets (names_in told.old.keys) → list.new ≡ map in_brackets (names_in told.new.keys)) }
-{
-    if told.insert(pair.name.as_str())? {
-        list.push(pair.name.canonical(alloc)?)?;
-    }
-    Ok(())
 }
 
 /// By hand: a proof sees one call where it is dropped, and not its parts.

@@ -1,5 +1,7 @@
 //! The table of all applications.
-ghost use Rattle.std.specs.Prelude.{◌≡◌, ◌≢◌, [], length, take, filter, IfOk, IfErr, OnOk, OnErr, Ok, Err};
+ghost use Rattle.std.specs.Prelude.{◌≡◌, ◌≢◌, ◌<◌, [], length, take, filter, IfOk, IfErr, OnOk, OnErr, Ok, Err};
+ghost use Rattle.tcl_text.specs.Limits.{most_bytes};
+ghost use Rattle.tcl_text.specs.Readings.{list_form};
 ghost use Rattle.tk_sequences.specs.Words.{name_in};
 ghost use Rattle.tk_virtual.specs.Virtual.{added, all_added, deleted, name_or_fault, pairs_meant, without_name, without_pair, without_pairs, written_names, written_of};
 ghost use Rattle.tk_virtual.specs.Shared.{LeavesOthers, own_of};
@@ -10,7 +12,7 @@ use crate::pairs::VirtualPairs;
 use std::alloc::{AllocError, Global};
 use std::collections::HashMap;
 use std::marker::Model;
-use tcl_text::{Text, TextList};
+use tcl_text::{Text, TextFault, TextList};
 use tk_sequences::VirtualName;
 
 /// The virtual events of all applications, each application's apart from the others': pairs of a name and a sequence, in the order in which
@@ -183,9 +185,11 @@ impl VirtualTable {
         self.of(owner).all()
     }
 
-    /// The names that an application has pairs of, in their brackets, each where it first stands (`event info` of event(n)).
-    pub fn info(&self, alloc: Global, owner: usize) -> Result<TextList, AllocError>
-        ensures { IfOk result (λ list. list ≡ written_names (own_of owner self.now)) }
+    /// The names that an application has pairs of, in their brackets, each where it first stands (`event info` of event(n)). `TooLong` where
+    /// their list passes 65,536 bytes by its names alone; none is copied then.
+    pub fn info(&self, alloc: Global, owner: usize) -> Result<TextList, TextFault>
+        ensures ok { IfOk result (λ list. list ≡ written_names (own_of owner self.now)) }
+        ensures too_long { IfErr result (λ fault. fault ≢ TextFault.NoMemory → most_bytes < length (list_form (written_names (own_of owner self.now)))) }
     {
         self.of(owner).names(alloc)
     }

@@ -1,7 +1,7 @@
 use Rattle.std.proofs.Common.{rules, not}
-use Rattle.std.proofs.lemmas.Fn.{filter_same}
+use Rattle.indexmap.proofs.CallerLemmas.{filter-RetainsPairs}
 use Rattle.tk_virtual.specs.Virtual.{has_name}
 use Rattle.tk_virtual.proofs.list.leave_out_name.Goals as goal
 
 pub returns : goal.returns
-returns c = filter_same _ (λ pair. not (has_name c.args.name.now pair)) _ (λ x b f' k. search rules) _ _ c.retain.ensures.filtered
+returns c = filter-RetainsPairs _ (λ entry. not (has_name c.args.name.now entry.0)) _ (λ k v b w g call. search rules) _ _ c.retain.ensures.filtered

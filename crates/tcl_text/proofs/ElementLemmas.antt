@@ -1,12 +1,12 @@
 -- The elements of a list, one by one.
-use Rattle.std.proofs.Common.{◌≡◌, ◌≢◌, ℕ, zero, suc, ◌+◌, ◌-◌, ◌<◌, ◌≤◌, Bool, true, false, List, [], ◌∷◌, ◌++◌, append-nil, append_assoc, drop, length, get_or, nat_eq, cond, IsUtf8, subst, Some, None, Ok, Err, Result, refl, arith, ap, sym, ◌∙◌, inl, inr}
+use Rattle.std.proofs.Common.{◌≡◌, ◌≢◌, ℕ, zero, suc, ◌+◌, ◌-◌, ◌<◌, ◌≤◌, Bool, true, false, List, [], ◌∷◌, ◌++◌, append-nil, append_assoc, drop, take, length, get_or, nat_eq, cond, IsUtf8, subst, Some, None, Ok, Err, Result, refl, arith, ap, sym, ◌∙◌, inl, inr}
 use Rattle.std.specs.Borrow.{Bor}
 use Rattle.std.proofs.lemmas.Bool.{cases_Bool, cases_lt, eqb-true, both_ways, false_from_ne_true}
 use Rattle.std.proofs.lemmas.List.{drop_more, drop_all, length-drop}
 use Rattle.tcl_text.specs.Backslash.{is_white, kind_of, escape, byte_mark, escape_mark, marks_past, marks, Mark}
 use Rattle.tcl_text.specs.Readings.{ListPlace, between, in_braces, in_quotes, in_bare, closed, place_after, Reading, onto, begun, with_mark, reading, elements, skip_white, list_of}
 use Rattle.tcl_text.specs.ListString.{items_read}
-use Rattle.tcl_text.specs.Splitting.{GivesBehind, GivesItem, GivesElement, IsAtEnd, IsBehind, ReadsTo, Unescapes, begins_bare_element, ends, ended, is_behind_element, items_before}
+use Rattle.tcl_text.specs.Splitting.{FindsBrace, GivesBehind, GivesItem, GivesElement, IsAtEnd, IsBehind, ReadsTo, Unescapes, begins_bare_element, ends, ended, is_behind_element, items_before}
 use Rattle.std.specs.Str.{IsCharBoundary}
 use Rattle.std.proofs.lemmas.Str.{IsCharBoundary-from_drop}
 use Rattle.tcl_text.proofs.IntegerReading.{white_low}
@@ -138,28 +138,35 @@ bare_list (c ∷ cs) item (suc n) some bare reads end =
     ∙ ap (λ read. elements (begun read)) (reads ∙ ap (onto item) (reading_bare (drop (suc n) text) (behind_place text (suc n) end)))
     ∙ items_before-ended item (list_of (drop (suc n) text))
 
-pub gives_bare : (text item : List ℕ) (at : ℕ) (rest : Bor (List ℕ)) → 0 < length text → begins_bare_element (kind_of (get_or text 0 0)) ≡ true → Unescapes false text item at → IsAtEnd false text at → rest.now ≡ drop at text → GivesElement text (Ok (item, rest))
-gives_bare text item at rest some bare h end is = (
+pub bare_gives : (text item now : List ℕ) (at : ℕ) → 0 < length text → begins_bare_element (kind_of (get_or text 0 0)) ≡ true → Unescapes false text item at → IsAtEnd false text at → now ≡ drop at text
+    → (length now < length text) × (list_of text ≡ items_before (item ∷ []) (list_of now)) × IsBehind text now
+bare_gives text item now at some bare h end is = (
   shorter at end h.fits is,
   bare_list text item at some bare h.reads end ∙ ap (λ xs. items_before (item ∷ []) (list_of xs)) (sym is),
-  behind_is text rest.now at h.fits is,
+  behind_is text now at h.fits is,
 )
   where
     black : is_white (get_or text 0 0) ≡ false
     black = white_no_bare (get_or text 0 0) bare
 
-    shorter : (at : ℕ) → IsAtEnd false text at → at ≤ length text → rest.now ≡ drop at text → length rest.now < length text
+    shorter : (at : ℕ) → IsAtEnd false text at → at ≤ length text → now ≡ drop at text → length now < length text
     shorter zero end fits is = absurd (both_ways (is_white (get_or text 0 0)) black (end some))
     shorter (suc n) end fits is = omega (arith, ap length is, length-drop (suc n) text)
 
+pub gives_bare : (text item : List ℕ) (at : ℕ) (rest : Bor (List ℕ)) → 0 < length text → begins_bare_element (kind_of (get_or text 0 0)) ≡ true → Unescapes false text item at → IsAtEnd false text at → rest.now ≡ drop at text → GivesElement text (Ok (item, rest))
+gives_bare text item at rest some bare h end is = bare_gives text item rest.now at some bare h end is
+
 -- ── closing braces and quotes ──
 
-pub gives_behind : (text slice : List ℕ) (at : ℕ) (behind : Bor (List ℕ)) → at < length text → behind.now ≡ drop (at + 1) text → slice ≡ behind.now → is_behind_element slice ≡ true → GivesBehind text at (Some behind)
-gives_behind text slice at behind inside is same ends = (
+pub gives_rest : (text now : List ℕ) (at : ℕ) → at < length text → now ≡ drop (at + 1) text → is_behind_element now ≡ true → (now ≡ drop (at + 1) text) × (reading closed (marks (drop (at + 1) text)) ≡ ended (list_of now)) × IsBehind text now
+gives_rest text now at inside is ends = (
   is,
-  reading_closed (drop (at + 1) text) (ap is_behind_element (sym is) ∙ ap is_behind_element (sym same) ∙ ends) ∙ ap (λ rest. ended (list_of rest)) (sym is),
-  behind_is text behind.now (at + 1) (omega arith) is,
+  reading_closed (drop (at + 1) text) (ap is_behind_element (sym is) ∙ ends) ∙ ap (λ rest. ended (list_of rest)) (sym is),
+  behind_is text now (at + 1) (omega arith) is,
 )
+
+pub gives_behind : (text slice : List ℕ) (at : ℕ) (behind : Bor (List ℕ)) → at < length text → behind.now ≡ drop (at + 1) text → slice ≡ behind.now → is_behind_element slice ≡ true → GivesBehind text at (Some behind)
+gives_behind text slice at behind inside is same ends = gives_rest text behind.now at inside is (ap is_behind_element (sym same) ∙ ends)
 
 pub gives_extra : (text slice : List ℕ) (at : ℕ) → slice ≡ drop (at + 1) text → is_behind_element slice ≡ false → GivesBehind text at None
 gives_extra text slice at is more = reading_extra (drop (at + 1) text) (ap is_behind_element (sym is) ∙ more)
@@ -171,6 +178,10 @@ closed_item place text item at behind inside closing h =
 
 closed_extra : (place : ListPlace) (text item : List ℕ) (at : ℕ) → reading place (marks text) ≡ onto item (reading closed (marks (drop (at + 1) text))) → GivesBehind text at None → reading place (marks text) ≡ Err ExtraCharacters
 closed_extra place text item at closing h = closing ∙ ap (onto item) h
+
+-- an item in braces
+pub braced_item : (text : List ℕ) (at : ℕ) (behind : Bor (List ℕ)) → FindsBrace text (Some at) → GivesBehind text at (Some behind) → GivesItem (in_braces 0) text (Ok (take at text, behind))
+braced_item text at behind found gives = closed_item (in_braces 0) text (take at text) at behind found.0 found.2 gives
 
 -- a quote that closes an element
 quote_found : (text item : List ℕ) (at : ℕ) → at < length text → Unescapes true text item at → IsAtEnd true text at → reading in_quotes (marks text) ≡ onto item (reading closed (marks (drop (at + 1) text)))

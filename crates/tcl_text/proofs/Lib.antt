@@ -28,6 +28,8 @@ pub mod KeptViews
 pub mod KeptSteps
 mod ItemLemmas
 pub mod SearchLemmas
+pub mod ByteLemmas
+pub mod SoughtLemmas
 pub mod WordLemmas
 pub mod WordPlaces
 pub mod CursorLemmas

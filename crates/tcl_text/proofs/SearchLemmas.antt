@@ -18,7 +18,7 @@ use Rattle.tcl_text.specs.declared.splitting.ByteKind.TheVariants.{White, OpenBr
 
 -- ── what was found in front ──
 
-or_found-false : (told : Result Bool ListFault) → or_found false told ≡ told
+pub or_found-false : (told : Result Bool ListFault) → or_found false told ≡ told
 or_found-false (Ok found) = refl
 or_found-false (Err fault) = refl
 

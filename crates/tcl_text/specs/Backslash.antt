@@ -1,5 +1,5 @@
 -- Meaning. What a backslash stands for, and a text as the marks that it is written in.
-use Rattle.std.specs.Prelude.{ℕ, zero, suc, ◌+◌, ◌*◌, Bool, ◌&&◌, ◌||◌, ◌==◌, nat_lt, nat_le, if◌then◌else◌, List, [], ◌∷◌, drop, take, encode_utf8}
+use Rattle.std.specs.Prelude.{ℕ, zero, suc, ◌+◌, ◌*◌, Bool, not, ◌&&◌, ◌||◌, ◌==◌, nat_lt, nat_le, if◌then◌else◌, List, [], ◌∷◌, drop, take, encode_utf8}
 use Rattle.std.specs.Char.{digit_value}
 use Rattle.tcl_text.specs.Bytes.{alert, backspace, tab, line_feed, vertical_tab, form_feed, carriage_return, space, quote, digit_zero, digit_seven, capital_u, backslash_sign, letter_a, letter_b, letter_f, letter_n, letter_r, letter_t, letter_u, letter_v, letter_x, open_brace, close_brace}
 use Rattle.tcl_text.specs.declared.splitting.ByteKind.{ByteKind}
@@ -59,6 +59,14 @@ named c =
     else (if c == letter_t then tab
     else (if c == letter_v then vertical_tab
     else c))))))
+
+-- a backslash takes this byte and no other, whatever stands behind it: it is no newline, no octal digit, and no letter before digits
+abbrev pub is_alone : ℕ → Bool
+is_alone c = not (c == line_feed || (nat_le digit_zero c && nat_le c digit_seven) || c == letter_x || c == letter_u || c == capital_u)
+
+-- a byte that is taken alone, and means one byte
+abbrev pub one_byte : ℕ → Escape
+one_byte b = record { meaning = b ∷ []; length = 1 }
 
 -- how many blanks and tabs stand in front
 abbrev pub blanks : List ℕ → ℕ

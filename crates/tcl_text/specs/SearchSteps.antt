@@ -1,12 +1,15 @@
 -- Steps. How far a list was searched for an item.
-use Rattle.std.specs.Prelude.{◌≡◌, ℕ, ◌+◌, ◌-◌, ◌<◌, ◌≤◌, Bool, true, false, ◌||◌, List, drop, length, slice_index, IsUtf8, Result, Ok, Err}
+use Rattle.std.specs.Prelude.{◌≡◌, ℕ, ◌+◌, ◌-◌, ◌<◌, ◌≤◌, Bool, true, false, ◌||◌, List, ◌++◌, drop, length, slice_index, bytes_eq, IsUtf8, Option, Some, None, Result, Ok, Err}
+use Rattle.std.specs.Borrow.{Bor}
 use Rattle.std.specs.List.{list_any}
 use Rattle.std.specs.Str.{IsCharBoundary}
 use Rattle.memchr.specs.Find.{OccursAt}
 use Rattle.tcl_text.specs.Backslash.{is_white}
-use Rattle.tcl_text.specs.Readings.{list_of}
+use Rattle.tcl_text.specs.Readings.{ListPlace, list_of}
 use Rattle.tcl_text.specs.Searching.{has_item}
+use Rattle.tcl_text.specs.Splitting.{GivesElement, GivesItem, Unescapes}
 use Rattle.tcl_text.specs.declared.fault.ListFault.{ListFault}
+use Rattle.tcl_text.specs.declared.fault.SplitFault.{SplitFault}
 
 -- what a search says of a list, the front of which has the item or not
 abbrev pub or_found : Bool → Result Bool ListFault → Result Bool ListFault
@@ -39,3 +42,34 @@ pub record HasWord (text item : List ℕ) : Type 0 where
   pub black : list_any is_white item ≡ false
   pub at : ℕ
   pub stands : IsWordAt text item at
+
+-- what remains of the item behind the bytes, or that it doesn't begin with them
+abbrev pub Remains : List ℕ → List ℕ → Option (Bor (List ℕ)) → Type 0
+Remains item bytes (Some left) = bytes ++ left.now ≡ item
+Remains item bytes None = (rest : List ℕ) → bytes ++ rest ≡ item → ⊥
+
+-- what remains of any item behind these bytes more
+abbrev pub GoesOn : Option (Bor (List ℕ)) → List ℕ → Option (Bor (List ℕ)) → Type 0
+GoesOn left more now = (item bytes : List ℕ) → Remains item bytes left → Remains item (bytes ++ more) now
+
+-- an element in quotes, or a bare one, was read up to a place, and whether it is the item if it ends there
+pub record ReadsItem (quoted : Bool) (item text : List ℕ) (at : ℕ) (same : Bool) : Type 0 where
+  pub bytes : List ℕ
+  pub reads : Unescapes quoted text bytes at
+  pub told : same ≡ bytes_eq bytes item
+
+-- an element of which this holds, and whether it is the item
+pub record Compared (holds : List ℕ → Type 0) (item : List ℕ) (same : Bool) : Type 0 where
+  pub element : List ℕ
+  pub told : same ≡ bytes_eq element item
+  pub gives : holds element
+
+-- the text goes on with an element, which is the item or isn't, and then with the list in what is left; or it is at fault
+abbrev pub TellsItem : ListPlace → List ℕ → List ℕ → Result (Bool × Bor (List ℕ)) SplitFault → Type 0
+TellsItem place item text (Ok r) = Compared (λ element. GivesItem place text (Ok (element, r.1))) item r.0
+TellsItem place item text (Err fault) = GivesItem place text (Err fault)
+
+-- the same of a whole list
+abbrev pub TellsElement : List ℕ → List ℕ → Result (Bool × Bor (List ℕ)) SplitFault → Type 0
+TellsElement item text (Ok r) = Compared (λ element. GivesElement text (Ok (element, r.1))) item r.0
+TellsElement item text (Err fault) = GivesElement text (Err fault)

@@ -70,8 +70,21 @@ fn blanks(text: &[u8]) -> usize
     text.len()
 }
 
+/// Whether a backslash before this byte takes no other, whatever stands behind it.
+#[inline]
+pub fn is_alone(byte: u8) -> bool
+    ensures { result ≡ backslash.is_alone byte }
+{
+    !(byte == b'\n'
+        || (b'0' <= byte && byte <= b'7')
+        || byte == b'x'
+        || byte == b'u'
+        || byte == b'U')
+}
+
 /// The control character that a letter names, or the byte itself.
-fn named(letter: u8) -> u8
+#[inline]
+pub fn named(letter: u8) -> u8
     ensures { result ≡ backslash.named letter }
 {
     match letter {

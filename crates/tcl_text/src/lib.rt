@@ -24,6 +24,7 @@ mod number;
 mod searching;
 mod shared;
 mod short;
+mod sought;
 mod splitting;
 mod text;
 mod white_space;

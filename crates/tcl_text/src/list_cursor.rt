@@ -37,7 +37,7 @@ impl ListCursor {
         ensures { Splits result (list_of text.now) }
     {
         let characters = text.as_str();
-        let _found = is_among(alloc, characters, "")?;
+        let _found = is_among(characters, "")?;
         let place = characters.len() - behind_white(characters).len();
         let text = text.copy()?;
         Ok(ListCursor { text, place })

@@ -1,15 +1,15 @@
 //! Searches of a list for an item.
 ghost use Rattle.std.specs.Prelude.{◌≡◌, ◌-◌, ◌<◌, ◌≤◌, ◌&&◌, ℕ, true, false, nat_lt, bytes_eq, length, slice_index};
 ghost use Rattle.tcl_text.specs.Backslash as backslash;
-ghost use Rattle.tcl_text.specs.Limits.{most_bytes};
 ghost use Rattle.tcl_text.specs.Readings.{list_of};
 ghost use Rattle.tcl_text.specs.SearchSteps.{Passes, PassesFront};
 ghost use Rattle.tcl_text.specs.Searching.{Tells, has_item};
 
 use crate::fault::SplitFault;
-use crate::splitting::{ByteKind, front_element, kind};
+use crate::sought::front_is;
+use crate::splitting::{ByteKind, kind};
 use crate::text::Text;
-use crate::white_space::is_white;
+use crate::white_space::{is_white, skip_white};
 use crate::word_places::has_word;
 use memchr::memchr3;
 use std::alloc::Global;
@@ -70,47 +70,74 @@ fn words_len(text: &[u8]) -> usize
     end
 }
 
+/// Whether the bytes begin with one that stands for itself. Nothing depends on it but the time.
+#[inline]
+fn begins_plain(text: &[u8]) -> bool {
+    match text.first() {
+        Some(byte) => *byte != b'{' && *byte != b'"' && *byte != b'\\',
+        None => false,
+    }
+}
+
 /// What is left of a list behind white space and items of plain bytes, and whether one of these equals a text.
-fn plain_front<'a>(text: &'a str, item: &str) -> (&'a str, bool)
+fn plain_front<'a>(text: &'a [u8], item: &[u8]) -> (&'a [u8], bool)
     ensures { Passes item.now text.now result.0.now result.1 }
 {
-    let (place, found) = plain_len(text.as_bytes(), item.as_bytes());
+    let (place, found) = plain_len(text, item);
     (&text[place..], found)
 }
 
+/// The same, where mostly items stand that aren't plain: then it is found out at once.
+#[inline]
+fn front_behind<'a>(text: &'a [u8], item: &[u8]) -> (&'a [u8], bool)
+    ensures { Passes item.now text.now result.0.now result.1 }
+{
+    let rest = skip_white(text);
+    if begins_plain(rest) {
+        return plain_front(rest, item);
+    }
+    (rest, false)
+}
+
 /// The same of a whole list. A long one is searched at once; that this is done in two places also keeps it out of the code for a few bytes.
-fn list_front<'a>(text: &'a str, item: &str) -> (&'a str, bool)
+fn list_front<'a>(text: &'a [u8], item: &[u8]) -> (&'a [u8], bool)
     ensures { Passes item.now text.now result.0.now result.1 }
 {
     if text.len() < FEW_BYTES {
         return plain_front(text, item);
     }
-    let (place, found) = searched_len(text.as_bytes(), item.as_bytes());
+    let (place, found) = searched_len(text, item);
     (&text[place..], found)
 }
 
-/// Whether an item of the list that the text is equals another text. It reads the list to its end, and keeps nothing of it.
-pub fn is_among(alloc: Global, text: &str, item: &str) -> Result<bool, SplitFault>
-    requires { length text.now ≤ most_bytes }
+/// Whether an item of the list that the bytes are equals others.
+fn has_bytes(text: &[u8], item: &[u8]) -> Result<bool, SplitFault>
     ensures { Tells result (has_item item.now (list_of text.now)) }
 {
     let (mut rest, mut found) = list_front(text, item);
     while !rest.is_empty() {
-        let (element, behind) = front_element(alloc, rest)?;
-        found |= element.as_str() == item;
-        let (left, among) = plain_front(behind, item);
+        let (same, behind) = front_is(rest, item)?;
+        found |= same;
+        let (left, among) = front_behind(behind, item);
         found |= among;
         rest = left;
     }
     Ok(found)
 }
 
+/// Whether an item of the list that the text is equals another text. It reads the list to its end, and keeps nothing of it.
+pub fn is_among(text: &str, item: &str) -> Result<bool, SplitFault>
+    ensures { Tells result (has_item item.now (list_of text.now)) }
+{
+    has_bytes(text.as_bytes(), item.as_bytes())
+}
+
 impl Text {
-    /// Whether an item of the list that the text is equals another text. Each item is compared where it stands, and only one with a
-    /// backslash is built. `BadList` (3) where the text is no list, also where the item stands before the fault.
-    pub fn has_item(&self, alloc: Global, item: &Text) -> Result<bool, SplitFault>
+    /// Whether an item of the list that the text is equals another text. Each item is compared where it stands, and none is built.
+    /// `BadList` (3) where the text is no list, also where the item stands before the fault.
+    pub fn has_item(&self, _alloc: Global, item: &Text) -> Result<bool, SplitFault>
         ensures { Tells result (has_item item.now (list_of self.now)) }
     {
-        is_among(alloc, self.as_str(), item.as_str())
+        is_among(self.as_str(), item.as_str())
     }
 }

@@ -60,7 +60,7 @@ pub fn brace_step(text: &[u8], depth: usize) -> Option<(usize, usize)>
 
 /// How many bytes stand before the closing brace, if there is one.
 #[tactic(auto, using(crate::proofs::SplittingLemmas::brace_steps))]
-fn braced_len(text: &[u8]) -> Option<usize>
+pub fn braced_len(text: &[u8]) -> Option<usize>
     ensures { FindsBrace text.now result }
 {
     let mut depth = 0;
@@ -85,7 +85,7 @@ fn is_end(byte: u8, quoted: bool) -> bool
 
 /// How many bytes stand before a backslash, the end of the element, or the end of the text.
 #[tactic(auto, using(crate::proofs::SplittingLemmas::run_turns))]
-fn run_len(text: &[u8], quoted: bool) -> usize
+pub fn run_len(text: &[u8], quoted: bool) -> usize
     ensures fits { result ≤ length text.now }
     ensures reads { ReadsTo (within quoted) text.now result (take result text.now) (within quoted) }
     ensures stops { IsAtStop quoted text.now result }
@@ -149,7 +149,8 @@ fn item_in(alloc: Global, text: &str, quoted: bool) -> Result<(Element<'_>, usiz
 }
 
 /// Whether an element may end before these bytes: they are none, or begin with white space.
-fn is_behind_element(text: &[u8]) -> bool
+#[inline]
+pub fn is_behind_element(text: &[u8]) -> bool
     ensures { result ≡ is_behind_element text.now }
 {
     match text.first() {

@@ -12,6 +12,7 @@ pub fn is_white(byte: u8) -> bool
 }
 
 /// The bytes behind the white space in front.
+#[inline]
 pub fn skip_white(text: &[u8]) -> &[u8]
     ensures { result.now ≡ readings.skip_white text.now }
 {

@@ -17,6 +17,8 @@ pub mod SimpleLemmas
 pub mod Stepping
 pub mod Straight
 pub mod TreeValues
+pub mod TurnLemmas
 pub mod Unrolled
 pub mod Weights
+pub mod WholeLemmas
 pub mod WordLemmas

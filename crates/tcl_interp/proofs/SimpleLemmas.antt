@@ -1,5 +1,5 @@
 -- What commands come to whose words are put together at once.
-use Rattle.std.proofs.Common.{◌≡◌, ℕ, zero, suc, ◌+◌, ◌<◌, ◌≤◌, Bool, true, false, cond, List, [], ◌∷◌, ◌++◌, length, drop, get_or, nat_le, Option, Some, None, IfSome, Result, Ok, Err, refl, ap, sym, subst, ◌∙◌, arith, add-one}
+use Rattle.std.proofs.Common.{◌≡◌, ℕ, zero, suc, ◌+◌, ◌<◌, ◌≤◌, Bool, true, false, cond, List, [], ◌∷◌, ◌++◌, length, drop, get_or, nat_le, Some, Result, Ok, Err, refl, ap, sym, subst, ◌∙◌, arith, add-one, append-nil}
 use Rattle.std.proofs.lemmas.Bool.Decides.{nat_tests}
 use Rattle.std.specs.Fmt.{signed_decimal}
 use Rattle.std.specs.Prelude.{ℤ, OnErr}
@@ -27,16 +27,16 @@ use Rattle.tcl_interp.specs.Expressions.{expression_meaning}
 use Rattle.tcl_interp.specs.Acts.{script_meaning, outside_meaning}
 use Rattle.tcl_interp.specs.Scripts.{call_meaning, called_meaning, on_parsed}
 use Rattle.tcl_interp.specs.Finish.{GoesOn, Calls, Ends, Waiting, ForCommand, waits_meaning}
-use Rattle.tcl_interp.specs.Moves.{Standing, word_end, moved, standing, expression_begins, after_command}
+use Rattle.tcl_interp.specs.Moves.{Standing, word_end, moved, standing, expression_begins}
 use Rattle.tcl_interp.specs.Openings.{IsInteger}
 use Rattle.tcl_interp.specs.Rests.{IsSingle, words_in_front, pieces_in_front, expand_in_front, read_commands}
-use Rattle.tcl_interp.specs.Simple.{IsWritten, Computes, ExprGives, GivesWord, WordsLead, GivesScript, EndsCall}
+use Rattle.tcl_interp.specs.Simple.{CommandEnds, IsWritten, Computes, ExprGives, GivesWord, WordsLead, GivesScript, EndsCall}
 use Rattle.tcl_interp.specs.Steps.{state_with, finish_from, TakesStep, TakesSteps}
 use Rattle.tcl_interp.proofs.Same.{end_meaning, pieces_end, run_in, next_in, words_same, expression_same, end_same, leads_same}
 use Rattle.tcl_interp.proofs.Straight.{opened_leads}
 
 -- the command in front of those behind it
-front_suc : (commands : List Command) (i : ℕ) → 0 < length (words_in_front (drop i commands)) → (command : Command) × (drop i commands ≡ command ∷ drop (suc i) commands)
+pub front_suc : (commands : List Command) (i : ℕ) → 0 < length (words_in_front (drop i commands)) → (command : Command) × (drop i commands ≡ command ∷ drop (suc i) commands)
 front_suc [] zero some = absurd (omega (arith, some))
 front_suc [] (suc i) some = absurd (omega (arith, some))
 front_suc (command ∷ commands) zero some = (command, refl)
@@ -68,12 +68,12 @@ on_err (Ok value) Q holds = tt
 on_err (Err fault) Q holds = holds
 
 module _ {S K : Type 0} (outside : Outside S K) where
-  abbrev calls_in : ℕ → List (List ℕ) → State S → Outcome S
+  abbrev pub calls_in : ℕ → List (List ℕ) → State S → Outcome S
   calls_in room = call_meaning (outside_meaning outside) (run_in outside room)
 
   -- ── words ──
 
-  word_leads_suc : (room : ℕ) (words : List Word) (i : ℕ) (store : Store) (context : Context) (count : ℕ) (text : List ℕ) (whole : List (List ℕ)) → i < length words
+  pub word_leads_suc : (room : ℕ) (words : List Word) (i : ℕ) (store : Store) (context : Context) (count : ℕ) (text : List ℕ) (whole : List (List ℕ)) → i < length words
       → GivesWord outside room (drop i words) store context count text → WordsLead outside room store context (drop i words) whole count (drop (suc i) words) (whole ++ text ∷ [])
   word_leads_suc room [] i store context count text whole less gives = absurd (omega (arith, less))
   word_leads_suc room (word ∷ words) zero store context count text whole less gives = λ shows left after.
@@ -93,8 +93,14 @@ module _ {S K : Type 0} (outside : Outside S K) where
       let sum : (m + n) + left ≡ m + (n + left) = omega arith in
       ap (λ k. words_meaning (run_in outside room) (calls_in room) first x (state_with shows store context k) after) sum ∙ one shows (n + left) after ∙ two shows left after
 
+  -- and so does none
+  pub words_stay : (room : ℕ) (store : Store) (context : Context) (words : List Word) (before : List (List ℕ)) → WordsLead outside room store context words before 0 words (before ++ [])
+  words_stay room store context words before = λ shows left after.
+      ap (λ n. words_meaning (run_in outside room) (calls_in room) words before (state_with shows store context n) after) (none left)
+      ∙ ap (λ whole. words_meaning (run_in outside room) (calls_in room) words whole (state_with shows store context left) after) (sym (append-nil before))
+
   -- without a step
-  at_once : (room : ℕ) (store : Store) (context : Context) (first second : List Word) (x y : List (List ℕ)) → WordsLead outside room store context first x 0 second y
+  pub at_once : (room : ℕ) (store : Store) (context : Context) (first second : List Word) (x y : List (List ℕ)) → WordsLead outside room store context first x 0 second y
       → (shows : S) (left : ℕ) (after : State S → List (List ℕ) → Outcome S)
       → words_meaning (run_in outside room) (calls_in room) first x (state_with shows store context left) after ≡ words_meaning (run_in outside room) (calls_in room) second y (state_with shows store context left) after
   at_once room store context first second x y leads shows left after =
@@ -112,7 +118,7 @@ module _ {S K : Type 0} (outside : Outside S K) where
         ∙ ap (end_meaning (run_in outside room) (element_meaning (run_in outside room)) after state) (sym end),
   )
 
-  written_gives : (room : ℕ) (words : List Word) (store : Store) (context : Context) (text : List ℕ) → IsWritten words text → length text ≤ 65536 → GivesWord outside room words store context 0 text
+  pub written_gives : (room : ℕ) (words : List Word) (store : Store) (context : Context) (text : List ℕ) → IsWritten words text → length text ≤ 65536 → GivesWord outside room words store context 0 text
   written_gives room words store context text (plain, is) short = (
     plain,
     λ shows left after.
@@ -187,42 +193,34 @@ module _ {S K : Type 0} (outside : Outside S K) where
   expr_gives (suc room) level store context script only name argument value some parsed two written short written' short' binding at_level computes =
       expr_script room level store context script only name argument value parsed two written short written' short' binding at_level computes
 
-  pub if_expr_gives : (room level : ℕ) (store : Store) (context : Context) (script : List ℕ) (only : Command) (words : List Word) (value : Option (List ℕ)) → 0 < room → script_of script ≡ Ok (only ∷ []) → words ≡ only.words → level ≡ here context.levels store
-      → IfSome value (ExprGives store context level words) → IfSome value (GivesScript outside room script store context 1)
-  if_expr_gives room level store context script only words (Some value) some parsed is at_level gives =
-      let own : ExprGives store context level only.words value = subst (λ ws. ExprGives store context level ws value) is gives in
-      expr_gives room level store context script only own.0 own.1 value some parsed own.2 own.3 own.4 own.5 own.6 own.7 at_level own.8
-  if_expr_gives room level store context script only words None some parsed is at_level gives = gives
-
   -- ── commands on texts ──
 
   -- a script of one command that ends at once with this text
-  text_script : (room : ℕ) (store : Store) (context : Context) (script : List ℕ) (only : Command) (words : List (List ℕ)) (count : ℕ) (text : List ℕ) → script_of script ≡ Ok (only ∷ []) → 0 < length words
-      → WordsLead outside room store context only.words [] count [] words → EndsCall outside words store context store Normal text → GivesScript outside (suc room) script store context (count + 1) text
-  text_script room store context script only [] count text parsed some leads ends = absurd (omega (arith, some))
-  text_script room store context script only (name ∷ arguments) count text parsed some leads ends = λ shows left.
-      let state = state_with shows store context (count + suc left) in
-      let sum : (count + 1) + left ≡ count + suc left = omega arith in
-      ap (λ n. script_meaning outside (suc room) script (state_with shows store context n)) sum
-      ∙ ap (on_parsed (λ commands. commands_meaning (run_in outside room) (calls_in room) commands [] state) state) parsed
-      ∙ ap (λ o. and_then o (on_normal (λ s r. commands_meaning (run_in outside room) (calls_in room) [] r s)))
-      (leads shows (suc left) (called (run_in outside room) (calls_in room)) ∙ ends room shows left)
+  only_gives : (room : ℕ) (store : Store) (context : Context) (script : List ℕ) (only : Command) (count : ℕ) (text : List ℕ) → script_of script ≡ Ok (only ∷ [])
+      → CommandEnds outside room only.words store context count store Normal text → GivesScript outside (suc room) script store context count text
+  only_gives room store context script only count text parsed ends = λ shows left.
+      let state = state_with shows store context (count + left) in
+      ap (on_parsed (λ commands. commands_meaning (run_in outside room) (calls_in room) commands [] state) state) parsed
+      ∙ ap (λ o. and_then o (on_normal (λ s r. commands_meaning (run_in outside room) (calls_in room) [] r s))) (ends shows left)
 
   -- where there is room for it
-  pub text_gives : (room below : ℕ) (store : Store) (context : Context) (script : List ℕ) (only : Command) (words : List (List ℕ)) (count : ℕ) (text : List ℕ) → room ≡ suc below → script_of script ≡ Ok (only ∷ []) → 0 < length words
-      → WordsLead outside below store context only.words [] count [] words → EndsCall outside words store context store Normal text → GivesScript outside room script store context (count + 1) text
-  text_gives room below store context script only words count text is parsed some leads ends =
-      subst (λ r. GivesScript outside r script store context (count + 1) text) (sym is) (text_script below store context script only words count text parsed some leads ends)
+  pub command_gives : (room below : ℕ) (store : Store) (context : Context) (script : List ℕ) (only : Command) (count : ℕ) (text : List ℕ) → room ≡ suc below → script_of script ≡ Ok (only ∷ [])
+      → CommandEnds outside below only.words store context count store Normal text → GivesScript outside room script store context count text
+  command_gives room below store context script only count text is parsed ends =
+      subst (λ r. GivesScript outside r script store context count text) (sym is) (only_gives below store context script only count text parsed ends)
 
-  -- ── calls ──
-
-  -- a call that ends at once, and what waits for it goes on
-  pub ends_behind : (room : ℕ) (words : List (List ℕ)) (after : List Command) (waits : List (Waiting K)) (shows : S) (store : Store) (context : Context) (store' : Store) (code : Code) (text : List ℕ)
-      → EndsCall outside words store context store' code text
-      → TakesStep outside (standing (moved (Calls room words) (ForCommand room after ∷ waits)) store context) shows (standing (after_command room after waits code text) store' context) shows
-  ends_behind room words after waits shows store context store' code text ends = λ left.
-      ap (λ o. and_then o (waits_meaning outside (ForCommand room after ∷ waits))) (ends room shows left)
-      ∙ end_same outside code text (ForCommand room after) waits (state_with shows store' context left)
+  -- a command by its name, which is written, and the words behind it
+  pub named_end : (room : ℕ) (words : List Word) (store : Store) (context : Context) (store' : Store) (name : List ℕ) (arguments : List (List ℕ)) (count : ℕ) (code : Code) (text : List ℕ)
+      → IsWritten words name → length name ≤ 65536 → WordsLead outside room store context (drop 1 words) (name ∷ []) count [] (name ∷ arguments)
+      → EndsCall outside (name ∷ arguments) store context store' code text → CommandEnds outside room words store context (count + 1) store' code text
+  named_end room [] store context store' name arguments count code text (plain, is) short leads ends = absurd (cc)
+  named_end room (word ∷ words) store context store' name arguments count code text written short leads ends = λ shows left.
+      let call = called (run_in outside room) (calls_in room) in
+      let sum : (count + 1) + left ≡ count + suc left = omega arith in
+      ap (λ n. words_meaning (run_in outside room) (calls_in room) (word ∷ words) [] (state_with shows store context n) call) sum
+      ∙ at_once room store context (word ∷ words) words [] (name ∷ []) (word_leads_suc room (word ∷ words) 0 store context 0 name [] (omega arith) (written_gives room (word ∷ words) store context name written short)) shows (count + suc left) call
+      ∙ leads shows (suc left) call
+      ∙ ends room shows left
 
   -- ── commands ──
 
@@ -256,3 +254,13 @@ module _ {S K : Type 0} (outside : Outside S K) where
   steps_on m n first second third shows shows' shows'' one two = λ left.
       let sum : (m + n) + left ≡ m + (n + left) = omega arith in
       ap (finish_from outside first shows) sum ∙ one (n + left) ∙ two left
+
+  -- nothing was done
+  pub stays : (way : Standing K) (shows : S) → TakesSteps outside 0 way shows way shows
+  stays way shows = λ left. ap (finish_from outside way shows) (none left)
+
+  -- steps behind none
+  pub steps_behind : (m n : ℕ) (first second third : Standing K) (shows shows' : S) → m ≡ 0 → TakesSteps outside m first shows second shows → TakesSteps outside n second shows third shows' → TakesSteps outside n first shows third shows'
+  steps_behind m n first second third shows shows' zero_steps one two =
+      let sum : m + n ≡ n = omega (arith, zero_steps) in
+      subst (λ k. TakesSteps outside k first shows third shows') sum (steps_on m n first second third shows shows shows' one two)

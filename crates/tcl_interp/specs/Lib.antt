@@ -27,3 +27,5 @@ pub mod Simple
 pub mod Steps
 pub mod StepsBack
 pub mod Tasks
+pub mod Turns
+pub mod Whole

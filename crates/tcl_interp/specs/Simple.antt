@@ -18,6 +18,7 @@ use Rattle.tcl_interp.specs.Outside.{Outside}
 use Rattle.tcl_interp.specs.Evaluation.{State, Outcome, Ended, word_meaning, words_meaning}
 use Rattle.tcl_interp.specs.Acts.{script_meaning, outside_meaning}
 use Rattle.tcl_interp.specs.Scripts.{call_meaning}
+use Rattle.tcl_interp.specs.Finish.{words_rest}
 use Rattle.tcl_interp.specs.Openings.{IsInteger}
 use Rattle.tcl_interp.specs.Rests.{expand_in_front, pieces_in_front}
 use Rattle.tcl_interp.specs.Steps.{state_with}
@@ -64,3 +65,9 @@ module _ {S K : Type 0} (outside : Outside S K) where
   EndsCall words store context store' code text =
       (room : ℕ) (shows : S) (left : ℕ)
       → call_meaning (outside_meaning outside) (script_meaning outside room) words (state_with shows store context left) ≡ Ended (state_with shows store' context left) code text
+
+  -- A command of these words ends for so many steps, with these variables, where scripts in it have so much room.
+  abbrev pub CommandEnds : ℕ → List Word → Store → Context → ℕ → Store → Code → List ℕ → Type 0
+  CommandEnds room words store context count store' code text =
+      (shows : S) (left : ℕ)
+      → words_rest outside room words [] (state_with shows store context (count + left)) ≡ Ended (state_with shows store' context left) code text

@@ -1,6 +1,7 @@
 //! A Tcl interpreter on a stack of its own, which can stop after any number of steps.
 #![tactic(auto)]
 
+mod chosen;
 mod element_laws;
 mod expressions;
 mod interp;
@@ -20,6 +21,8 @@ mod slices;
 mod steps;
 mod stopped;
 mod tasks;
+mod turns;
+mod whole;
 mod words;
 
 pub use element_laws::elements_are_read;

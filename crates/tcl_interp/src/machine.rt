@@ -112,6 +112,17 @@ pub enum Now<K> {
     },
 }
 
+/// What is known of the next command of a script, so that nothing is tried twice. It may be any: no clause depends on it.
+#[derive(Clone, Copy)]
+pub enum Front {
+    /// Nothing.
+    New,
+    /// It calls another command than those that are done on their words.
+    Other,
+    /// Its words aren't plain.
+    Unplain,
+}
+
 /// What is done next, unless memory is refused.
 pub type Next<K> = Result<Now<K>, AllocError>;
 

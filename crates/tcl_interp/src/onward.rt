@@ -8,11 +8,12 @@ ghost use Rattle.tcl_interp.specs.Quiet.{Leads, ends_move};
 ghost use Rattle.tcl_interp.specs.Rests.{doing_of, left_in, standing_of, waits_of};
 ghost use Rattle.tcl_interp.specs.Steps.{TakesSteps};
 
-use crate::machine::{Frame, Next, Now, ScriptPlace};
+use crate::machine::{Frame, Front, Next, Now, ScriptPlace};
 use crate::moves::{begun, ended, wake};
-use crate::simple::{Gone, run_plain};
+use crate::simple::{Gone, run_one};
 use crate::steps::test;
 use crate::tasks::Tasks;
+use crate::turns::{front_at, go_round, run_on, stand_at};
 use crate::words::commands;
 use std::alloc::{AllocError, Global};
 use tcl_control::{Code, Context};
@@ -114,6 +115,87 @@ fn onward<K: Drop>(
     first_known(alloc, context, doing)
 }
 
+/// Runs the next commands of a script, as long as they can be done on their words, for so many steps at most; none where it is known that the first can't.
+fn run_known<T: Tasks>(
+    alloc: Global,
+    scopes: &mut Scopes,
+    context: &mut Context,
+    frames: &mut Vec<Frame<T::Task>>,
+    from: ScriptPlace,
+    previous: Text,
+    front: Front,
+    most: u64,
+    left: &mut u64,
+) -> Result<Gone<T::Task>, AllocError>
+    requires there { most ≤ left.old }
+    ensures context { context.new ≡ context.old }
+    ensures ok { IfOk result (λ gone. (shows : T.Shows) → TakesSteps T.outside gone.steps
+        (standing (moved (GoesOn from.room (left_in from) previous) (waits_of frames.old.items)) scopes.old context.old) shows
+        (standing_of gone.now frames.new.items scopes.new context.new) shows) }
+    ensures most { IfOk result (λ gone. gone.steps ≤ most) }
+    ensures counted { IfOk result (λ gone. gone.steps + left.new ≡ left.old) }
+    ensures taken { left.new ≤ left.old }
+    ensures within { left.old ≤ left.new + most }
+    ensures untaken { IfOk result (λ gone. gone.steps ≡ 0 → scopes.new ≡ scopes.old) }
+    ensures uncounted { OnErr result (left.new ≡ left.old → scopes.new ≡ scopes.old) }
+{
+    match front {
+        Front::New => run_on::<T>(alloc, scopes, context, frames, from, previous, most, left),
+        front => Ok(Gone {
+            now: Now::GoesOn {
+                place: from,
+                result: previous,
+            },
+            steps: 0,
+            front,
+        }),
+    }
+}
+
+/// Runs the next commands of a script, as long as they can be done on their words, for so many steps at most, or calls one whose words are plain. Where no
+/// step was taken, the script stands where it was.
+fn run_script<T: Tasks>(
+    alloc: Global,
+    tasks: &mut T,
+    scopes: &mut Scopes,
+    context: &mut Context,
+    frames: &mut Vec<Frame<T::Task>>,
+    from: ScriptPlace,
+    previous: Text,
+    front: Front,
+    most: u64,
+    left: &mut u64,
+) -> Result<Gone<T::Task>, AllocError>
+    requires some { 0 < most }
+    requires there { most ≤ left.old }
+    ensures ok { IfOk result (λ gone. TakesSteps T.outside gone.steps
+        (standing (moved (GoesOn from.room (left_in from) previous) (waits_of frames.old.items)) scopes.old context.old) (T.shows tasks.old)
+        (standing_of gone.now frames.new.items scopes.new context.new) (T.shows tasks.new)) }
+    ensures most { IfOk result (λ gone. gone.steps ≤ most) }
+    ensures counted { IfOk result (λ gone. gone.steps + left.new ≡ left.old) }
+    ensures taken { left.new ≤ left.old }
+    ensures within { left.old ≤ left.new + most }
+    ensures uncounted { OnErr result (left.new ≡ left.old → (scopes.new ≡ scopes.old) × (context.new ≡ context.old) × (T.shows tasks.new ≡ T.shows tasks.old)) }
+    ensures left { T.left_alone tasks.new ≡ T.left_alone tasks.old }
+{
+    let gone = run_known::<T>(
+        alloc, scopes, context, frames, from, previous, front, most, left,
+    )?;
+    if gone.steps > 0 || matches!(gone.front, Front::Unplain) {
+        return Ok(gone);
+    }
+    match gone.now {
+        Now::GoesOn { place, result } => run_one(
+            alloc, tasks, scopes, context, frames, place, result, most, left,
+        ),
+        now => Ok(Gone {
+            now,
+            steps: 0,
+            front,
+        }),
+    }
+}
+
 /// Runs the next commands of a script, or tests a loop, for so many steps at most, and goes on to the next command or test. Where no step was taken,
 /// what is to be done needs a move.
 fn run_next<T: Tasks>(
@@ -123,6 +205,7 @@ fn run_next<T: Tasks>(
     context: &mut Context,
     frames: &mut Vec<Frame<T::Task>>,
     now: Now<T::Task>,
+    front: Front,
     most: u64,
     left: &mut u64,
 ) -> Result<Gone<T::Task>, AllocError>
@@ -139,23 +222,40 @@ fn run_next<T: Tasks>(
 {
     match now {
         Now::GoesOn { place, result } => {
-            let gone = run_plain(
-                alloc, tasks, scopes, context, frames, place, result, most, left,
+            let gone = run_script(
+                alloc, tasks, scopes, context, frames, place, result, front, most, left,
             )?;
             let steps = gone.steps;
+            let front = gone.front;
             if steps == 0 {
                 return Ok(gone);
             }
             let now = onward(alloc, scopes, context, frames, gone.now)?;
-            Ok(Gone { now, steps })
+            Ok(Gone { now, steps, front })
         }
         Now::Tests { room, looping } => {
+            let turned = go_round::<T>(alloc, scopes, context, looping.get(), room, most, left)?;
+            let steps = turned.steps;
+            if steps > 0 {
+                let front = front_at(&turned.at);
+                let stopped = stand_at(context, frames, looping, room, turned.at)?;
+                let now = onward(alloc, scopes, context, frames, stopped)?;
+                return Ok(Gone { now, steps, front });
+            }
             *left -= 1;
             let tested = test(alloc, scopes, context, frames, looping, room)?;
             let now = onward(alloc, scopes, context, frames, tested)?;
-            Ok(Gone { now, steps: 1 })
+            Ok(Gone {
+                now,
+                steps: 1,
+                front: Front::New,
+            })
         }
-        now => Ok(Gone { now, steps: 0 }),
+        now => Ok(Gone {
+            now,
+            steps: 0,
+            front,
+        }),
     }
 }
 
@@ -186,16 +286,28 @@ pub fn run_commands<T: Tasks>(
         place: from,
         result: previous,
     };
+    let mut front = Front::New;
     let mut steps = 0;
     'commands: while steps < most {
         let more = most - steps;
-        let gone = run_next(alloc, tasks, scopes, context, frames, doing, more, left)?;
+        let gone = run_next(
+            alloc, tasks, scopes, context, frames, doing, front, more, left,
+        )?;
         let taken = gone.steps;
         steps += taken;
         doing = gone.now;
+        front = gone.front;
         if taken == 0 {
-            return Ok(Gone { now: doing, steps });
+            return Ok(Gone {
+                now: doing,
+                steps,
+                front,
+            });
         }
     }
-    Ok(Gone { now: doing, steps })
+    Ok(Gone {
+        now: doing,
+        steps,
+        front,
+    })
 }

@@ -7,7 +7,7 @@ ghost use Rattle.tcl_vars.specs.Store.{number_in};
 ghost use Rattle.tcl_control.specs.Expressions.{truth_of_text};
 ghost use Rattle.tcl_interp.specs.Finish.{Evaluates, Waiting};
 ghost use Rattle.tcl_interp.specs.Moves.{moved, standing, choice_move, expression_begins};
-ghost use Rattle.tcl_interp.specs.Openings.{Opens, OpensAs};
+ghost use Rattle.tcl_interp.specs.Openings.{Knows, Opens, OpensAs};
 ghost use Rattle.tcl_interp.specs.Quiet.{Leads};
 ghost use Rattle.tcl_interp.specs.Rests.{doing_of, standing_of, waits_of};
 
@@ -109,7 +109,7 @@ pub fn valued<K: Drop>(
 
 /// Whether a condition holds that is an integer.
 #[tactic(auto, using(crate::proofs::Straight::integer_truth))]
-fn holds(number: i64) -> bool
+pub fn holds(number: i64) -> bool
     ensures { truth_of_text (signed_decimal number) ≡ Ok result }
 {
     number != 0
@@ -133,6 +133,22 @@ pub fn open_condition<K: Drop>(
             code: Code::Error,
             text,
         })),
+    }
+}
+
+/// Whether a condition holds, where straight code says so. Variables are those of a level.
+pub fn known_condition(
+    alloc: Global,
+    scopes: &Scopes,
+    level: usize,
+    expression: &Expression,
+) -> Result<Option<bool>, AllocError>
+    requires { level < length scopes.now }
+    ensures { IfOk result (λ known. IfSome known (Knows scopes.now level expression.now)) }
+{
+    match open_expression(alloc, scopes, level, expression)? {
+        Opening::Integer(number) => Ok(Some(holds(number))),
+        Opening::Evaluation(_) | Opening::Fault(_) => Ok(None),
     }
 }
 

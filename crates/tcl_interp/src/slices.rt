@@ -6,7 +6,7 @@ ghost use Rattle.tcl_interp.specs.Rests.{moved_of, doing_of, standing_of};
 ghost use Rattle.tcl_interp.specs.Runs.{Comes, IfPaused};
 ghost use Rattle.tcl_interp.specs.Steps.{GoesByStep, NeedsStep, IsSettled, TakesStep, TakesSteps, TakesNone, finish_from, pauses_left};
 
-use crate::machine::{Frame, Next, Now};
+use crate::machine::{Frame, Front, Next, Now};
 use crate::moves::{begun, quiet};
 use crate::onward::run_commands;
 use crate::simple::Gone;
@@ -185,17 +185,25 @@ fn proceed<T: Tasks>(
 {
     match now {
         Now::GoesOn { place, result } => {
-            let Gone { now, steps } = run_commands(
+            let Gone { now, steps, .. } = run_commands(
                 alloc, tasks, scopes, context, frames, place, result, most, left,
             )?;
             let now = settle(alloc, tasks, scopes, context, frames, now, went(steps))?;
-            Ok(Gone { now, steps })
+            Ok(Gone {
+                now,
+                steps,
+                front: Front::New,
+            })
         }
         needed => {
             *left -= 1;
             let next = take_step(alloc, tasks, scopes, context, frames, needed)?;
             let now = settle(alloc, tasks, scopes, context, frames, next, true)?;
-            Ok(Gone { now, steps: 1 })
+            Ok(Gone {
+                now,
+                steps: 1,
+                front: Front::New,
+            })
         }
     }
 }

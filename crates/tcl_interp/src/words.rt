@@ -132,14 +132,21 @@ pub fn commands(script: &Script) -> &[Command]
     script.commands()
 }
 
+/// The words of the command at a place of a script.
+pub fn words_at(script: &Script, place: usize) -> &[Word]
+    ensures { result.now ≡ words_in_front (drop place (commands_in script.now)) }
+{
+    match commands(script).get(place) {
+        Some(command) => command.words.as_slice(),
+        None => &[],
+    }
+}
+
 /// The words of the command that is next.
 pub fn next_words(place: &ScriptPlace) -> &[Word]
     ensures { result.now ≡ words_in_front (left_in place.now) }
 {
-    match commands(&place.script).get(place.next) {
-        Some(command) => command.words.as_slice(),
-        None => &[],
-    }
+    words_at(&place.script, place.next)
 }
 
 /// The pieces of a word.

@@ -1,0 +1,77 @@
+-- Steps. Scripts whose commands are done on their words: how far they came, and `if` whose body is known.
+use Rattle.std.specs.Prelude.{◌≡◌, ◌≤◌, ◌+◌, ℕ, Bool, true, false, List, [], ◌∷◌, ◌++◌, length, drop, map, if◌then◌else◌, Option, Some, None, IsOk, codes, bytes_eq}
+use Rattle.tcl_words.specs.declared.script.Command.{Command}
+use Rattle.tcl_words.specs.declared.script.Word.{Word}
+use Rattle.tcl_text.specs.Limits.{most_bytes}
+use Rattle.tcl_vars.specs.Store.{Store}
+use Rattle.tcl_control.specs.declared.code.Code.{Code}
+use Rattle.tcl_control.specs.declared.code.Code.TheVariants.{Normal}
+use Rattle.tcl_control.specs.declared.context.Context.{Context}
+use Rattle.tcl_table.specs.Source.{script_of}
+use Rattle.tcl_interp.specs.declared.chosen.Chosen.{Chosen}
+use Rattle.tcl_interp.specs.declared.chosen.Chosen.TheVariants as chosen
+use Rattle.tcl_interp.specs.declared.machine.ScriptPlace.{ScriptPlace}
+use Rattle.tcl_interp.specs.declared.whole.Came.{Came}
+use Rattle.tcl_interp.specs.declared.whole.Came.TheVariants as came
+use Rattle.tcl_interp.specs.declared.whole.Past.{Past}
+use Rattle.tcl_interp.specs.declared.whole.Past.TheVariants as past
+use Rattle.tcl_interp.specs.declared.whole.Reach.{Reach}
+use Rattle.tcl_interp.specs.declared.whole.Reach.TheVariants as reach
+use Rattle.tcl_interp.specs.declared.whole.Stop.{Stop}
+use Rattle.tcl_interp.specs.Finish.{ForCommand, GoesOn, Waiting}
+use Rattle.tcl_interp.specs.Moves.{Moved, after_command, moved}
+use Rattle.tcl_interp.specs.Openings.{Knows}
+use Rattle.tcl_interp.specs.Rests.{left_in}
+use Rattle.tcl_interp.specs.Outside.{Outside}
+use Rattle.tcl_interp.specs.Simple.{CommandEnds, IsWritten}
+
+module _ {K : Type 0} where
+  -- a script at a place waits for its command
+  abbrev pub waiting_at : ScriptPlace → Waiting K
+  waiting_at place = ForCommand place.room (left_in place)
+
+  -- a script has stopped, for which others wait
+  abbrev pub stopped_in : Stop → List (Waiting K) → Moved K
+  stopped_in stop waits = after_command stop.place.room (left_in stop.place) (map waiting_at stop.outer.items ++ waits) stop.code stop.text
+
+  -- these commands of a script, with this room for scripts in it, came so far
+  abbrev pub came_to : ℕ → List Command → Came → List (Waiting K) → Moved K
+  came_to room commands (came.At next code text front) waits = after_command room (drop next commands) waits code text
+  came_to room commands (came.Within stop) waits = stopped_in stop.value waits
+
+  -- a script for which others wait came so far
+  abbrev pub reached_to : ℕ → Reach → List (Waiting K) → Moved K
+  reached_to room (reach.Whole text) waits = moved (GoesOn room [] text) waits
+  reached_to room (reach.Stopped stop) waits = stopped_in stop waits
+
+  -- the command at a place of these, behind one with this result, came so far
+  abbrev pub past_to : ℕ → ℕ → List Command → List ℕ → Past → List (Waiting K) → Moved K
+  past_to room place commands previous (past.Before front) waits = moved (GoesOn room (drop place commands) previous) waits
+  past_to room place commands previous (past.Behind code text) waits = after_command room (drop (place + 1) commands) waits code text
+  past_to room place commands previous (past.Within stop) waits = stopped_in stop.value waits
+
+-- a text that is written at a place of the words
+abbrev pub WrittenAt : ℕ → List Word → List ℕ → Type 0
+WrittenAt place words text = IsWritten (drop place words) text × (length text ≤ most_bytes)
+
+-- the words of `if`, written so: a condition, a body, and the body behind `else`, if there is one
+abbrev pub IfWords : List Word → List ℕ → List ℕ → Option (List ℕ) → Type 0
+IfWords words test body None =
+    (length words ≡ 3) × WrittenAt 1 words test × WrittenAt 2 words body × (bytes_eq body (codes "then") ≡ false)
+IfWords words test body (Some last) =
+    (length words ≡ 5) × WrittenAt 1 words test × WrittenAt 2 words body × (bytes_eq body (codes "then") ≡ false) × WrittenAt 3 words (codes "else")
+    × WrittenAt 4 words last
+
+-- `if` of these words runs this body, or none
+abbrev pub Chooses : Store → ℕ → List Word → Chosen → Type 0
+Chooses store level words chosen.Nothing = (test : List ℕ) × (body : List ℕ) × IfWords words test body None × Knows store level test false
+Chooses store level words (chosen.Body script) =
+    (test : List ℕ) × (body : List ℕ) × (otherwise : Option (List ℕ)) × (holds : Bool) × IfWords words test body otherwise × Knows store level test holds
+    × (Some script ≡ (if holds then Some body else otherwise)) × IsOk (script_of script)
+
+module _ {S K : Type 0} (outside : Outside S K) where
+  -- a command of these words came so far for so many steps, with these variables, where scripts in it have so much room
+  abbrev pub Passes : ℕ → List Word → Store → Context → ℕ → Past → Store → Type 0
+  Passes room words store context steps (past.Before front) store' = (steps ≡ 0) × (store' ≡ store)
+  Passes room words store context steps (past.Behind code text) store' = CommandEnds outside room words store context steps store' code text
+  Passes room words store context steps (past.Within stop) store' = ⊥

@@ -35,6 +35,8 @@ pub mod WordPlaces
 pub mod CursorLemmas
 pub mod KeptItems
 pub mod KeptGrown
+pub mod ItemBytes
+pub mod FormLemmas
 pub mod SortLemmas
 pub mod ListReading
 pub mod MarkLemmas

@@ -25,6 +25,8 @@ pub mod AsciiMarks
 pub mod TextForm
 pub mod ListString
 pub mod ItemsForm
+pub mod ItemBytes
+pub mod ReadList
 pub mod Element
 pub mod Searching
 pub mod SearchSteps

@@ -12,6 +12,7 @@ mod fault;
 mod glob;
 mod glob_places;
 mod integer;
+mod item_bytes;
 pub mod laws;
 pub mod lengths;
 mod list;

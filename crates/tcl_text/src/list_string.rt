@@ -1,4 +1,5 @@
-ghost use Rattle.std.specs.Prelude.{◌≡◌, ◌≢◌, ◌+◌, ◌<◌, ◌≤◌, ◌++◌, ◌∷◌, [], ℕ, List, take, drop, length, slice_index_or, string_bytes, IfOk, IfErr, OnOk, OnErr, MatchBool};
+ghost use Rattle.std.specs.Prelude.{◌≡◌, ◌≢◌, ◌+◌, ◌<◌, ◌≤◌, ◌++◌, ◌∷◌, [], ℕ, List, take, drop, length, slice_index_or, string_bytes, bytes_eq, IfOk, IfErr, OnOk, OnErr, MatchBool};
+ghost use Rattle.std.specs.List.{list_any};
 ghost use Rattle.tcl_text.specs.ListCommands.{spliced};
 ghost use Rattle.tcl_text.specs.ListForm.{others_form};
 ghost use Rattle.tcl_text.specs.AsciiMarks.{MarksAscii};
@@ -9,6 +10,7 @@ ghost use Rattle.tcl_text.specs.Limits.{most_bytes, most_string};
 
 use crate::fault::TextFault;
 use crate::list_form::push_element;
+use crate::sought::is_same;
 use crate::splitting::first_element;
 use crate::text::{MAX_BYTES, Text};
 use std::alloc::{AllocError, Global};
@@ -157,6 +159,7 @@ impl ListString {
     }
 
     /// Where the item of this number begins in the string, with the blank before it, or where the last one ends.
+    #[inline]
     fn place(&self, number: usize) -> usize
         requires { number ≤ length self.now }
         ensures value { result ≡ length (others_form (take number self.now)) }
@@ -170,6 +173,7 @@ impl ListString {
     }
 
     /// The form of the item of this number, counted from 0.
+    #[inline]
     fn form(&self, number: usize) -> &str
         requires { number < length self.now }
         ensures value { result.now ≡ element_form (slice_index_or self.now number []) }
@@ -192,6 +196,27 @@ impl ListString {
             Ok((item, _behind)) => Ok(item),
             Err(_) => Err(AllocError),
         }
+    }
+
+    /// Whether the form of an item is this one.
+    fn has_form(&self, form: &str) -> bool
+        ensures { result ≡ list_any (λ one. bytes_eq (element_form one) form.now) self.now }
+    {
+        for number in 0..self.len() {
+            if is_same(self.form(number).as_bytes(), form.as_bytes()) {
+                return true;
+            }
+        }
+        false
+    }
+
+    /// Whether one of the items is this one: its form is told from theirs, so none is read.
+    pub fn has(&self, alloc: Global, item: &str) -> Result<bool, AllocError>
+        ensures { IfOk result (λ found. found ≡ list_any (λ one. bytes_eq one item.now) self.now) }
+    {
+        let mut form = String::new(alloc);
+        push_element(&mut form, item)?;
+        Ok(self.has_form(form.as_str()))
     }
 
     /// The items from one number up to another.

@@ -17,6 +17,9 @@ use std::alloc::Global;
 /// So many bytes of a list are looked at one by one, and those behind them many at once.
 const FEW_BYTES: usize = 64;
 
+/// From how many bytes on a list is looked for among those that are kept.
+const LONG_LIST: usize = 1024;
+
 /// Whether a word of a list, if it is one, is the item.
 #[inline]
 fn is_item(word: &[u8], item: &[u8]) -> bool
@@ -133,11 +136,19 @@ pub fn is_among(text: &str, item: &str) -> Result<bool, SplitFault>
 }
 
 impl Text {
-    /// Whether an item of the list that the text is equals another text. Each item is compared where it stands, and none is built.
-    /// `BadList` (3) where the text is no list, also where the item stands before the fault.
-    pub fn has_item(&self, _alloc: Global, item: &Text) -> Result<bool, SplitFault>
+    /// Whether an item of the list that the text is equals another text. No item is built: it is compared where it stands, or in the list that
+    /// a long text keeps. `BadList` (3) where the text is no list, also where the item stands before the fault.
+    pub fn has_item(&self, alloc: Global, item: &Text) -> Result<bool, SplitFault>
         ensures { Tells result (has_item item.now (list_of self.now)) }
     {
-        is_among(self.as_str(), item.as_str())
+        let text = self.as_str();
+        let item = item.as_str();
+        if text.len() < LONG_LIST {
+            return is_among(text, item);
+        }
+        match self.found(alloc, item) {
+            Some(found) => Ok(found),
+            None => is_among(text, item),
+        }
     }
 }

@@ -1,29 +1,49 @@
-ghost use Rattle.std.specs.Prelude.{◌≡◌, ◌++◌, Ok, IfOk, IfSome, OnOk, OnErr, MatchBool, string_bytes};
-ghost use Rattle.tcl_text.specs.Readings.{list_of};
+ghost use Rattle.std.specs.Prelude.{◌≡◌, ◌++◌, ℕ, List, Ok, IfOk, IfSome, OnOk, OnErr, MatchBool, string_bytes};
 ghost use Rattle.tcl_text.specs.AsciiMarks.{MarksAscii};
+ghost use Rattle.tcl_text.specs.ReadList.{IsKeptOf};
+ghost use Rattle.tcl_text.specs.Readings.{list_of};
+ghost use Rattle.tcl_text.specs.Searching.{has_item};
 
+use crate::fault::{SplitFault, TextFault};
+use crate::item_bytes::ItemBytes;
 use crate::list_string::ListString;
 use crate::splitting::items_of;
-use crate::text::MAX_BYTES;
+use crate::text::{MAX_BYTES, Text};
 use std::alloc::{AllocError, Global};
 use std::cell::{Cell, OnceCell};
 use std::marker::Model;
 use std::rc::Rc;
 
-/// A list, and the text in which it was read.
+/// After how many searches for an item a list is kept, which takes as long as up to so many of them: whoever has many lists searched so often
+/// gains no time by it.
+const MANY_SEARCHES: u8 = 64;
+
+/// What is kept of a text that was read as a list.
+#[derive(Drop)]
+enum KeptAs {
+    /// The list.
+    Forms(Rc<ListString>),
+    /// Its items alone, where its form is longer than a text may be.
+    Items(ItemBytes),
+    /// Nothing, where it is no list.
+    Nothing,
+}
+
+/// A text that was read as a list, and what is kept of that.
 #[derive(Drop)]
 struct ReadList {
     text: String,
-    list: Rc<ListString>,
-    ghost read: { list_of (string_bytes text) ≡ Ok list.value },
+    kept: KeptAs,
+    ghost read: { IsKeptOf kept (string_bytes text) },
 }
 
-/// A text that copies share, whether it is all ASCII, and the list that it is, once it was read as one a second time.
+/// A text that copies share, whether it is all ASCII, and the list that it is, once it was read as one a second time, or was searched often.
 #[derive(Drop)]
 pub struct SharedText {
     string: String,
     ascii: bool,
     was_read: Cell<bool>,
+    searches: Cell<u8>,
     read: OnceCell<Box<ReadList>>,
 }
 
@@ -38,21 +58,39 @@ impl Model for SharedText {
     ghost invariant = { λ s. MarksAscii s.ascii (string_bytes s.string) };
 }
 
-impl ReadList {
-    /// The list that a text is; none where it is no list, or one whose form is longer than a text.
-    fn of(alloc: Global, text: &str) -> Result<Box<ReadList>, AllocError> {
-        if text.len() > MAX_BYTES {
-            return Err(AllocError);
+impl KeptAs {
+    /// What is kept of a text that is the list of these items.
+    fn of_items(alloc: Global, items: &[Text]) -> Result<KeptAs, AllocError>
+        ensures { IfOk result (λ kept. (text : List ℕ) → list_of text ≡ Ok items.now → IsKeptOf kept text) }
+    {
+        match ListString::new(alloc, items) {
+            Ok(list) => Ok(KeptAs::Forms(Rc::new(alloc, list)?)),
+            Err(TextFault::TooLong) => Ok(KeptAs::Items(ItemBytes::new(alloc, items)?)),
+            Err(TextFault::NoMemory) => Err(AllocError),
         }
-        let Ok(items) = items_of(alloc, text) else {
-            return Err(AllocError);
-        };
-        let Ok(list) = ListString::new(alloc, items.as_slice()) else {
-            return Err(AllocError);
-        };
+    }
+
+    /// What is kept of a text.
+    fn of(alloc: Global, text: &str) -> Result<KeptAs, AllocError>
+        ensures { IfOk result (λ kept. IsKeptOf kept text.now) }
+    {
+        if text.len() > MAX_BYTES {
+            return Ok(KeptAs::Nothing);
+        }
+        match items_of(alloc, text) {
+            Ok(items) => KeptAs::of_items(alloc, items.as_slice()),
+            Err(SplitFault::BadList(_)) => Ok(KeptAs::Nothing),
+            Err(SplitFault::NoMemory) => Err(AllocError),
+        }
+    }
+}
+
+impl ReadList {
+    /// A text, and what is kept of it.
+    fn of(alloc: Global, text: &str) -> Result<Box<ReadList>, AllocError> {
+        let kept = KeptAs::of(alloc, text)?;
         let text = String::from_str(alloc, text)?;
-        let list = Rc::new(alloc, list)?;
-        Ok(Box::new(alloc, ReadList { text, list })?)
+        Ok(Box::new(alloc, ReadList { text, kept })?)
     }
 }
 
@@ -66,6 +104,7 @@ impl SharedText {
             string,
             ascii,
             was_read: Cell::new(false),
+            searches: Cell::new(0),
             read: OnceCell::new(),
         }
     }
@@ -84,7 +123,22 @@ impl SharedText {
         self.ascii
     }
 
-    /// The list that the text is, where it is kept. What a cell has is known by its text alone, which is compared.
+    /// What is kept of the text, from now on at the latest. What a cell has is known by its text alone, which is compared.
+    fn kept(&self, alloc: Global) -> Option<&KeptAs>
+        ensures { IfSome result (λ kept. IsKeptOf kept.now self.now) }
+    {
+        let text = self.string.as_str();
+        let Ok(read) = self.read.get_or_try_init(|| ReadList::of(alloc, text)) else {
+            return None;
+        };
+        if read.text.as_str() == text {
+            Some(&read.kept)
+        } else {
+            None
+        }
+    }
+
+    /// The list that the text is, where it is kept: not at the first time.
     pub fn as_kept(&self, alloc: Global) -> Option<&Rc<ListString>>
         ensures { IfSome result (λ list. list_of self.now ≡ Ok list.now.value) }
     {
@@ -92,14 +146,37 @@ impl SharedText {
             self.was_read.set(true);
             return None;
         }
-        let text = self.string.as_str();
-        let Ok(read) = self.read.get_or_try_init(|| ReadList::of(alloc, text)) else {
+        match self.kept(alloc)? {
+            KeptAs::Forms(list) => Some(list),
+            _ => None,
+        }
+    }
+
+    /// Counts a search for an item, and says whether there were few.
+    fn is_seldom_searched(&self) -> bool {
+        let searches = self.searches.get();
+        if searches < MANY_SEARCHES {
+            self.searches.set(searches + 1);
+            return true;
+        }
+        false
+    }
+
+    /// Whether an item of the list that the text is equals another text, where the list is kept: if not for other reasons, then after many searches.
+    pub fn found(&self, alloc: Global, item: &str) -> Option<bool>
+        ensures { IfSome result (λ found. has_item item.now (list_of self.now) ≡ Ok found) }
+    {
+        if self.read.get().is_none() && self.is_seldom_searched() {
+            return None;
+        }
+        let Some(kept) = self.kept(alloc) else {
+            self.searches.set(0);
             return None;
         };
-        if read.text.as_str() == text {
-            Some(&read.list)
-        } else {
-            None
+        match kept {
+            KeptAs::Forms(list) => list.as_ref().has(alloc, item).ok(),
+            KeptAs::Items(items) => Some(items.has(item.as_bytes())),
+            KeptAs::Nothing => None,
         }
     }
 
@@ -111,6 +188,7 @@ impl SharedText {
         self.string.push_str(characters)?;
         self.ascii &= characters.is_ascii();
         self.was_read.set(false);
+        self.searches.set(0);
         let _list = self.read.take();
         Ok(())
     }

@@ -13,7 +13,7 @@ use crate::splitting::{ByteKind, braced_len, is_behind_element, kind, run_len};
 /// Whether bytes are the same. The first one is mostly another.
 #[tactic(auto, using(crate::proofs::ByteLemmas::same_bytes))]
 #[inline]
-fn is_same(bytes: &[u8], item: &[u8]) -> bool
+pub fn is_same(bytes: &[u8], item: &[u8]) -> bool
     ensures { result ≡ bytes_eq bytes.now item.now }
 {
     if bytes.len() != item.len() {

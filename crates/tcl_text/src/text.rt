@@ -5,6 +5,7 @@ ghost use Rattle.tcl_text.specs.AsciiMarks.{MarksAscii};
 ghost use Rattle.tcl_text.specs.Edit.{with_more, written_anew};
 ghost use Rattle.tcl_text.specs.Readings.{list_form, list_of};
 ghost use Rattle.tcl_text.specs.Limits.{most_bytes};
+ghost use Rattle.tcl_text.specs.Searching.{has_item};
 
 use crate::fault::{EditFault, TextFault};
 use crate::list_string::ListString;
@@ -56,6 +57,7 @@ impl TextForm {
     ghost use Rattle.tcl_text.specs.Readings.{list_form, list_of};
     ghost use Rattle.tcl_text.specs.TextForm.{form_bytes};
     ghost use Rattle.tcl_text.specs.Limits.{most_bytes};
+    ghost use Rattle.tcl_text.specs.Searching.{has_item};
 
     /// These characters, which it takes over.
     fn of(alloc: Global, string: String) -> Result<TextForm, AllocError>
@@ -112,6 +114,18 @@ impl TextForm {
             TextForm::Number(_) => None,
             TextForm::Shared(text) => text.as_ref().as_kept(alloc),
             TextForm::Listed(list) => Some(list),
+        }
+    }
+
+    /// Whether an item of the list that the text is equals another text, where the list is kept.
+    fn found(&self, alloc: Global, item: &str) -> Option<bool>
+        ensures { IfSome result (λ found. has_item item.now (list_of (form_bytes self.now)) ≡ Ok found) }
+    {
+        match self {
+            TextForm::Short(_) => None,
+            TextForm::Number(_) => None,
+            TextForm::Shared(text) => text.as_ref().found(alloc, item),
+            TextForm::Listed(list) => list.as_ref().has(alloc, item).ok(),
         }
     }
 
@@ -289,7 +303,15 @@ impl Text {
         self.form.as_kept(alloc)
     }
 
-    /// The same, to look at.
+    /// Whether an item of the list that the text is equals another text, where that can be told by a list that is kept: of a text past
+    /// 22 bytes that was made as a list, was read as one twice, or was searched 64 times. So none says nothing.
+    pub(crate) fn found(&self, alloc: Global, item: &str) -> Option<bool>
+        ensures { IfSome result (λ found. has_item item.now (list_of self.now) ≡ Ok found) }
+    {
+        self.form.found(alloc, item)
+    }
+
+    /// The list that is kept, to look at.
     pub(crate) fn as_list(&self, alloc: Global) -> Option<&ListString>
         ensures { IfSome result (λ list. list_of self.now ≡ Ok list.now) }
     {

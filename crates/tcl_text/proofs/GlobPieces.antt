@@ -176,6 +176,14 @@ Spans-more pattern rest after count spans has behind = record {
       );
 }
 
+pub Spans-both : (pattern rest after : List ℕ) (count more : ℕ) → Spans pattern rest count → Spans rest after more → Spans pattern after (count + more)
+Spans-both pattern rest after count more one two = record {
+  forth = λ any m.
+      let first = one.forth any m in
+      let second = two.forth (drop count any) first.1 in
+      (omega (arith, first.0, second.0, length-drop count any), subst (λ (t : List ℕ). GlobMatches after t) (drop-drop more count any) second.1);
+}
+
 pub Spans-stuck : (pattern rest : List ℕ) (count : ℕ) → Spans pattern rest count → HasPart rest → ((c : ℕ) (other : List ℕ) → AllowsFirst rest c other → ⊥) → (text : List ℕ) → GlobMatches pattern text → ⊥
 Spans-stuck pattern rest count spans has stuck text m =
     let part = GlobMatches-part (spans.forth text m).1 has in

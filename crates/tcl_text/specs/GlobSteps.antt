@@ -1,10 +1,11 @@
 -- Steps. What the steps of a glob search say to one another.
-use Rattle.std.specs.Prelude.{◌≡◌, ◌≢◌, ◌+◌, ◌<◌, ◌≤◌, ◌⊎◌, ℕ, Bool, not, ◌||◌, ◌&&◌, ◌==◌, true, false, List, [], ◌∷◌, ◌++◌, take, drop, length, get_or, slice_index}
+use Rattle.std.specs.Prelude.{◌≡◌, ◌≢◌, ◌+◌, ◌<◌, ◌≤◌, ℕ, Bool, not, ◌||◌, ◌&&◌, ◌==◌, if◌then◌else◌, true, false, List, [], ◌∷◌, ◌++◌, take, drop, length, get_or, slice_index}
+use Rattle.std.specs.Int.{bit_at}
 use Rattle.std.specs.List.{list_all}
 use Rattle.std.specs.Str.{chars}
 use Rattle.memchr.specs.Find.{OccursAt}
 use Rattle.tcl_text.specs.Bytes.{star, question_mark, open_bracket, backslash_sign}
-use Rattle.tcl_text.specs.Glob.{in_class, AllowsFirst, GlobMatches}
+use Rattle.tcl_text.specs.Glob.{AllowsFirst, GlobMatches}
 
 -- the pattern begins with a part for one character, and not with `*`
 abbrev pub HasPart : List ℕ → Type 0
@@ -57,17 +58,28 @@ pub record IsBehindDead (pattern text left : List ℕ) : Type 0 where
 pub record AreDead (pattern window : List ℕ) (alive : List Bool) : Type 0 where
   pub none : (place : ℕ) → place < length alive → get_or alive place false ≡ false → (behind : List ℕ) → GlobMatches pattern (drop place (window ++ behind)) → ⊥
 
--- those places still live that lived, and for which the test holds
-abbrev pub Keeps : (ℕ → Bool) → List Bool → List Bool → Type 0
-Keeps test before after = (place : ℕ) → place < length before → get_or after place false ≡ (get_or before place false && test place)
+-- each byte has a mask, whose bits tell which of so many of the pattern's parts allow it: wherever the pattern matches, the mask of a byte has the
+-- bit of its place
+pub record Allows (pattern masks : List ℕ) (count : ℕ) : Type 0 where
+  pub told : (text : List ℕ) → GlobMatches pattern text → (place : ℕ) → place < count → slice_index text place < 256
+      → bit_at (slice_index masks (slice_index text place)) place ≡ 1
 
--- those places alone are dead that were dead, or whose byte isn't the character
-abbrev pub KeepsEqual : ℕ → List ℕ → List Bool → List Bool → Type 0
-KeepsEqual wanted bytes before after =
-    (place : ℕ) → place < length before → get_or after place false ≡ false → (get_or before place false ≡ false) ⊎ (slice_index bytes place ≢ wanted)
+-- the bit is set in the masks of the bytes for which the test holds, and nothing else has changed
+abbrev pub Marks : (ℕ → Bool) → ℕ → List ℕ → List ℕ → Type 0
+Marks test bit before after =
+    (byte : ℕ) → byte < 256 → (place : ℕ)
+    → bit_at (slice_index after byte) place ≡ (if place == bit && test byte then 1 else bit_at (slice_index before byte) place)
 
--- those places alone are dead that were dead, or whose byte the pattern's first part doesn't allow
-abbrev pub KeepsAllowed : List ℕ → List ℕ → List Bool → List Bool → Type 0
-KeepsAllowed pattern bytes before after =
-    (place : ℕ) → place < length before → get_or after place false ≡ false
-    → (get_or before place false ≡ false) ⊎ ((rest : List ℕ) → AllowsFirst pattern (slice_index bytes place) rest → ⊥)
+-- the bit is set in the masks of the bytes that the pattern's first part allows, and no other bit has changed
+pub record MarksAllowed (pattern : List ℕ) (bit : ℕ) (before after : List ℕ) : Type 0 where
+  pub noted : (byte : ℕ) → byte < 256 → (rest : List ℕ) → AllowsFirst pattern byte rest → bit_at (slice_index after byte) bit ≡ 1
+  pub others : (byte : ℕ) → byte < 256 → (place : ℕ) → place ≢ bit → bit_at (slice_index after byte) place ≡ bit_at (slice_index before byte) place
+
+-- each of so many parts allows its byte, from the place on, as the masks tell
+abbrev pub AllowsAt : List ℕ → ℕ → List ℕ → ℕ → Type 0
+AllowsAt masks parts bytes place = (part : ℕ) → part < parts → bit_at (slice_index masks (slice_index bytes (place + part))) part ≡ 1
+
+-- places at which each part allows its byte live on, if they lived
+abbrev pub KeepsAllowed : List ℕ → ℕ → List ℕ → List Bool → List Bool → Type 0
+KeepsAllowed masks parts bytes before after =
+    (place : ℕ) → place < length before → AllowsAt masks parts bytes place → get_or after place false ≡ get_or before place false

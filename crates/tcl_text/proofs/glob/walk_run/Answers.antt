@@ -26,8 +26,8 @@ returns-in_err-_skipped-clause-none c =
     let from = c.loop-from.invariant.2 in
     rw c.from_residual.ensures (star_none _ _ from.passed (sym from.at ∙ c.in_err-_skipped.ensures.cut) from.none (rw (← from.at) c.in_default.ensures.none))
 
-pub loop-from-preserved-then-tried-eq0 : goal.loop-from-preserved-then-tried-eq0
-loop-from-preserved-then-tried-eq0 c = (
+pub loop-from-preserved-then-tried-eq-FEW_TRIES : goal.loop-from-preserved-then-tried-eq-FEW_TRIES
+loop-from-preserved-then-tried-eq-FEW_TRIES c = (
   omega arith,
   search rules,
   behind_both _ _ _ _ (behind_more _ _ _ _ _ c.loop-from.invariant.2 c.in_default.ensures.none c.in_ok-_skipped.ensures.cut) c.behind_dead-from.ensures.dead,

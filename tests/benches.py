@@ -6,19 +6,11 @@ Each bench of examples/panels passes, and is the session that it prints: the hos
 its window; and of each of many mistakes, in a script or in a bench, what is told has the words that lead to it."""
 import json, os, pathlib, pty, re, shutil, subprocess, sys, tempfile
 import xml.etree.ElementTree as etree
-from programs import BENCHES, CRATES, EXAMPLES, HOST, built
+from programs import BENCHES, CRATES, EXAMPLES, HOST, all_seen, built, see
 
 TRYING = sys.argv[1:] == ["--try"]
 FOLDER = EXAMPLES / "panels"
 KINDS = (".toml", ".tcl", ".shown")
-faults, count = [], 0
-
-
-def see(holds, what):
-    global count
-    count += 1
-    if not holds:
-        faults.append(what)
 
 
 def benches():
@@ -695,9 +687,7 @@ def main():
             drawn(top)
             around(top)
             lived()
-    print("".join(f"{fault}\n" for fault in faults), end="")
-    print(f"benches: {count} things seen, {len(faults)} faults")
-    return 1 if faults else 0
+    return all_seen("benches")
 
 
 if __name__ == "__main__":

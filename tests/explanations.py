@@ -2,17 +2,9 @@
 """explanations.py [--try]: sees what `panels explain` tells of sessions with mistakes that are easily made: of each the words that lead to it. The program is
 that which the gate left in crates/panels_main/out; with --try the sources are run without proof, some minutes for each mistake."""
 import pathlib, subprocess, sys, tempfile
-from programs import BENCHES, CRATES, built
+from programs import BENCHES, CRATES, all_seen, built, see
 
 TRYING = sys.argv[1:] == ["--try"]
-faults, count = [], 0
-
-
-def see(holds, what):
-    global count
-    count += 1
-    if not holds:
-        faults.append(what)
 
 
 def run(*words, cwd):
@@ -79,9 +71,7 @@ def main():
         sys.exit(__doc__)
     explained()
     others()
-    print("".join(f"{fault}\n" for fault in faults), end="")
-    print(f"explanations: {count} things seen, {len(faults)} faults")
-    return 1 if faults else 0
+    return all_seen("explanations")
 
 
 if __name__ == "__main__":

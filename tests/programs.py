@@ -1,5 +1,5 @@
-"""What the tests share: where the repository's files are, its crates, the programs that the gate leaves in crates/NAME/out, and how sessions are played by
-them."""
+"""What the tests share: where the repository's files are, its crates, the programs that the gate leaves in crates/NAME/out, how sessions are played by
+them, and how a test that sees one thing after another tells what it saw."""
 import pathlib, re, subprocess, sys, tempfile
 
 TOP = pathlib.Path(__file__).resolve().parent.parent
@@ -59,3 +59,21 @@ def tried(sessions):
     if not any(found):
         sys.exit(ended.stdout[-2000:])
     return [one[1] if one else "" for one in found]
+
+
+# What isn't as it has to be, of so many things that were seen.
+faults, count = [], 0
+
+
+def see(holds, what):
+    global count
+    count += 1
+    if not holds:
+        faults.append(what)
+
+
+def all_seen(test):
+    """Tells what was seen, and answers the test's status."""
+    print("".join(f"{fault}\n" for fault in faults), end="")
+    print(f"{test}: {count} things seen, {len(faults)} faults")
+    return 1 if faults else 0

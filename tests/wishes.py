@@ -6,20 +6,12 @@ same place across; places down and heights are left out, since a line of its fon
 wish, which is then played here by the program that the gate left, or with --try by the sources without proof. A machine without xvfb-run and wish is told
 so, with status 0."""
 import pathlib, shutil, subprocess, sys, tempfile
-from programs import BENCHES, CRATES, EXAMPLES, TOP, built
+from programs import BENCHES, CRATES, EXAMPLES, TOP, all_seen, built, see
 
 TRYING = sys.argv[1:] == ["--try"]
 FOLDER = EXAMPLES / "panels"
 TCL = TOP / "contrib" / "tcl"
 PLAYED = [("form", "form"), ("keypad", "keypad"), ("modes", "modes"), ("stations", "stations"), ("stopwatch", "watch"), ("thermostat", "thermostat")]
-faults, count = [], 0
-
-
-def see(holds, what):
-    global count
-    count += 1
-    if not holds:
-        faults.append(what)
 
 
 def wish(script, *words, cwd=None):
@@ -205,9 +197,7 @@ def main():
     drags()
     differences()
     records()
-    print("".join(f"{fault}\n" for fault in faults), end="")
-    print(f"wishes: {count} things seen, {len(faults)} faults")
-    return 1 if faults else 0
+    return all_seen("wishes")
 
 
 if __name__ == "__main__":

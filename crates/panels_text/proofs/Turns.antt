@@ -1,7 +1,10 @@
 -- Lemmas on texts, their lines and lists that are gone through.
 use Rattle.std.proofs.Common.{◌≡◌, ◌≢◌, ℕ, zero, suc, lit<, ◌+◌, ◌<◌, true, false, eqb, List, [], ◌∷◌, ◌++◌, length, get_or, take, drop, ◌-◌, map, Option, Some, None, option_map, Bor, refl, sym, ap, ◌∙◌, subst, ⊎_elim, arith}
+use Rattle.std.specs.Iterator.{Yields}
 use Rattle.std.proofs.Math.Bool.{or-true}
 use Rattle.std.proofs.lemmas.Bool.{cases_Bool, eq-eqb, ne_eqb}
+use Rattle.std.proofs.lemmas.Iterator.{YieldsList}
+use Rattle.std.proofs.lemmas.Iterator.Consumers.{YieldsList-end, YieldsList-turn}
 use Rattle.std.proofs.lemmas.List.{at_drop_all, drop_more, length_push}
 use Rattle.std.proofs.lemmas.Str.{IsCharBoundary-before_ascii, IsUtf8-from_is_utf8, is_utf8-from_IsUtf8}
 use Rattle.std.proofs.lemmas.Str.Pattern.{NoCharPasses-char, ends_text, rfind_char, starts_text}
@@ -42,6 +45,14 @@ turn_more v all xs x turn = rw (length_push xs x) (drop_at all (length xs) (v x)
 
 pub turn_none : {A B : Type 0} (v : A → B) (all : List B) (xs : List A) → (map v xs ≡ all) × (length xs ≡ length all) → drop (length xs) all ≡ []
 turn_none v all xs end = at_drop_all (λ left. left) all (length xs) (omega (arith, end.1))
+
+-- the same of a `for` on an iterator whose road is known
+module _ {S A B : Type 0} {steps : S → Option A → S → Type 0} {v : A → B} {s : S} (all : List B) (road : YieldsList steps v s all) (xs : List A) {t : S} (yields : Yields steps s xs t) where
+  pub road_more : {r : Option A} {u : S} (x : A) → r ≡ Some x → steps t r u → drop (length xs) all ≡ v x ∷ drop (length (xs ++ x ∷ [])) all
+  road_more {r} {u} x is step = turn_more v all xs x (YieldsList-turn road xs t yields r u x is step)
+
+  pub road_end : {r : Option A} {u : S} → r ≡ None → steps t r u → drop (length xs) all ≡ []
+  road_end {r} {u} is step = turn_none v all xs (YieldsList-end road xs t yields r u is step)
 
 no_byte : (byte : ℕ) (text : List ℕ) → ((k : ℕ) → k < length text → get_or text k 0 ≢ byte) → has_byte byte text ≡ false
 no_byte byte [] away = refl

@@ -40,7 +40,7 @@ pub use meant::{likely, otherwise};
 pub use nearest::serving;
 pub use options::{Command, Format, Options, options_of};
 pub use place::line_at;
-pub use questions::{ANY, Question, Questions, questions_of};
+pub use questions::{ANY, Question, Questions, copied, questions_of};
 pub use refusals::{Refusal, begins, has_part, refusal_in};
 pub use rows::{rows_of, unescaped};
 pub use runner::{Runner, runner_of};

@@ -3,10 +3,9 @@
 ghost use Rattle.std.specs.Prelude.{◌≡◌, IfOk};
 ghost use Rattle.std.specs.String.{string_bytes};
 ghost use Rattle.panels_text.specs.Lines.{line_words, name_at};
-ghost use Rattle.tk_session.specs.Writing.{key_name};
 
 use std::alloc::{AllocError, Global};
-use tk_session::{AppBlock, HostLine};
+use tk_session::{AppBlock, HostLine, key_name};
 
 /// The name of the panel in a slot; empty where there is none.
 pub fn name_at(panels: &[AppBlock], slot: usize) -> &str
@@ -15,17 +14,6 @@ pub fn name_at(panels: &[AppBlock], slot: usize) -> &str
     match panels.get(slot) {
         Some(panel) => panel.name.as_str(),
         None => "",
-    }
-}
-
-/// The name of the key that goes down or up.
-fn key_name(line: HostLine) -> &'static str
-    ensures { result.now ≡ key_name line }
-{
-    match line {
-        HostLine::Keydown(key) => key.name(),
-        HostLine::Keyup(key) => key.name(),
-        _ => "",
     }
 }
 

@@ -293,8 +293,8 @@ fn push_question(
     })?)
 }
 
-/// A copy of words.
-fn copied(alloc: Global, words: &[String]) -> Result<Vec<String>, AllocError>
+/// A copy of words. An error where memory is refused.
+pub fn copied(alloc: Global, words: &[String]) -> Result<Vec<String>, AllocError>
     ensures { IfOk result (λ copies. map string_bytes copies.items ≡ map string_bytes words.now) }
 {
     let mut copies = Vec::new(alloc);

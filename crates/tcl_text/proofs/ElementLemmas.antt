@@ -62,11 +62,7 @@ reading_extra (c ∷ cs) black =
   where
     at : (k : ByteKind) (m : Mark) (r : ByteKind → Reading) → k ≢ White → with_mark closed k m (r k) ≡ Err ExtraCharacters
     at White m r other = absurd (other refl)
-    at OpenBrace m r other = refl
-    at CloseBrace m r other = refl
-    at Quote m r other = refl
-    at Backslash m r other = refl
-    at Other m r other = refl
+    at k m r other = refl
 
 -- an element and the list behind it are the list
 items_before-ended : (item : List ℕ) (read : Result (List (List ℕ)) ListFault) → elements (begun (onto item (ended read))) ≡ items_before (item ∷ []) read
@@ -117,12 +113,10 @@ bare_begins c cs bare =
     ap (reading between) h.cut ∙ at h.mark.kind h.mark (λ place. reading place h.others) (ap begins_bare_element h.kind ∙ bare) ∙ ap (λ ms. begun (reading in_bare ms)) (sym h.cut)
   where
     at : (k : ByteKind) (m : Mark) (r : ListPlace → Reading) → begins_bare_element k ≡ true → with_mark between k m (r (place_after between k)) ≡ begun (with_mark in_bare k m (r (place_after in_bare k)))
-    at White m r bare = absurd cc
-    at OpenBrace m r bare = absurd cc
     at CloseBrace m r bare = refl
-    at Quote m r bare = absurd cc
     at Backslash m r bare = refl
     at Other m r bare = refl
+    at k m r bare = absurd cc
 
 white_no_bare : (c : ℕ) → begins_bare_element (kind_of c) ≡ true → is_white c ≡ false
 white_no_bare c bare = false_from_ne_true (is_white c) (λ white. let e : false ≡ true = sym (ap begins_bare_element (white_kind c white)) ∙ bare in absurd cc)
@@ -273,10 +267,8 @@ begins_bare_from c black opening quote = at (kind_of c) (λ is. both_ways (is_wh
     at : (k : ByteKind) → k ≢ White → k ≢ OpenBrace → k ≢ Quote → begins_bare_element k ≡ true
     at White w o q = absurd (w refl)
     at OpenBrace w o q = absurd (o refl)
-    at CloseBrace w o q = refl
     at Quote w o q = absurd (q refl)
-    at Backslash w o q = refl
-    at Other w o q = refl
+    at k w o q = refl
 
 -- items in front of items
 pub items_before-items_before : (xs ys : List (List ℕ)) (read : Result (List (List ℕ)) ListFault) → items_before xs (items_before ys read) ≡ items_before (xs ++ ys) read
@@ -334,7 +326,5 @@ some_item (c ∷ cs) items some black is =
     at : (k : ByteKind) (m : Mark) (ms : List Mark) → k ≢ White → elements (with_mark between k m (reading (place_after between k) ms)) ≡ Ok items → 0 < length items
     at White m ms other is = absurd (other refl)
     at OpenBrace m ms other is = begun_some (reading (in_braces 0) ms) items is
-    at CloseBrace m ms other is = begun_some (onto m.meant (reading in_bare ms)) items is
     at Quote m ms other is = begun_some (reading in_quotes ms) items is
-    at Backslash m ms other is = begun_some (onto m.meant (reading in_bare ms)) items is
-    at Other m ms other is = begun_some (onto m.meant (reading in_bare ms)) items is
+    at k m ms other is = begun_some (onto m.meant (reading in_bare ms)) items is

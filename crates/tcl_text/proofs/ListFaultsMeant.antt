@@ -15,17 +15,13 @@ use Rattle.tcl_text.proofs.ListReading.{reads_white, reads_element, reads_quotes
 -- only a closing brace closes, where none is opened inside
 pub last_brace : (depth : ℕ) (k : ByteKind) → depth_after depth k ≡ None → (k ≡ CloseBrace) × (depth ≡ 0)
 last_brace zero CloseBrace none = (refl, refl)
-last_brace (suc depth) CloseBrace none = absurd cc
 last_brace zero OpenBrace none = absurd cc
-last_brace (suc depth) OpenBrace none = absurd cc
 last_brace zero White none = absurd cc
-last_brace (suc depth) White none = absurd cc
 last_brace zero Quote none = absurd cc
-last_brace (suc depth) Quote none = absurd cc
 last_brace zero Backslash none = absurd cc
-last_brace (suc depth) Backslash none = absurd cc
 last_brace zero Other none = absurd cc
-last_brace (suc depth) Other none = absurd cc
+last_brace (suc depth) CloseBrace none = absurd cc
+last_brace (suc depth) k none = absurd cc
 
 -- the same where so many more braces are open
 abbrev pub IsUnclosedFrom : ℕ → List Mark → Type 0
@@ -54,22 +50,14 @@ reads_unquoted (m ∷ ms) all =
   where
     at : (k : ByteKind) → not (elim k [ Quote ↦ true | _ ↦ false ]) ≡ true → (r : ListPlace → Reading) → with_mark in_quotes k m (r (place_after in_quotes k)) ≡ onto m.meant (r in_quotes)
     at Quote w r = absurd cc
-    at OpenBrace w r = refl
-    at CloseBrace w r = refl
-    at White w r = refl
-    at Backslash w r = refl
-    at Other w r = refl
+    at k w r = refl
 
 reads_extra : (next : Mark) (rest : List Mark) → is_white_mark next ≡ false → reading closed (next ∷ rest) ≡ Err ExtraCharacters
 reads_extra next rest black = at next.kind black (λ place. reading place rest)
   where
     at : (k : ByteKind) → elim k [ White ↦ true | _ ↦ false ] ≡ false → (r : ListPlace → Reading) → with_mark closed k next (r (place_after closed k)) ≡ Err ExtraCharacters
     at White b r = absurd cc
-    at OpenBrace b r = refl
-    at CloseBrace b r = refl
-    at Quote b r = refl
-    at Backslash b r = refl
-    at Other b r = refl
+    at k b r = refl
 
 reads_faulty : (ms : List Mark) (fault : ListFault) → IsFaultyElement ms fault → reading between ms ≡ Err fault
 reads_faulty ms fault (unclosed_brace first inside opens opened) =

@@ -169,11 +169,7 @@ module _ (m : Mark) (ms : List Mark) (behind : (place : ListPlace) (item : List 
 
   at_closed : (k : ByteKind) → m.kind ≡ k → (item : List ℕ) (items : List (List ℕ)) → with_mark closed k m (reading (place_after closed k) ms) ≡ Ok (item, items) → Says closed (m ∷ ms) item items
   at_closed White is item items e = let h = behind between item items e in (h.0, white_test m White is, white_more m ms items (white_test m White is) h.1)
-  at_closed OpenBrace is item items e = absurd (not_err _ (item, items) e)
-  at_closed CloseBrace is item items e = absurd (not_err _ (item, items) e)
-  at_closed Quote is item items e = absurd (not_err _ (item, items) e)
-  at_closed Backslash is item items e = absurd (not_err _ (item, items) e)
-  at_closed Other is item items e = absurd (not_err _ (item, items) e)
+  at_closed k is item items e = absurd (not_err _ (item, items) e)
 
   in_bare_other : is_white_mark m ≡ false → (item : List ℕ) (items : List (List ℕ)) → onto m.meant (reading in_bare ms) ≡ Ok (item, items) → Says in_bare (m ∷ ms) item items
   in_bare_other black item items e = let o = onto_parts m.meant (reading in_bare ms) item items e in bare_more m ms item o.0 items black o.2 (behind in_bare o.0 items o.1)
@@ -271,22 +267,14 @@ reads_white (m ∷ white) ms all =
   where
     at : (k : ByteKind) → elim k [ White ↦ true | _ ↦ false ] ≡ true → (r : ListPlace → Reading) → with_mark between k m (r (place_after between k)) ≡ r between
     at White w r = refl
-    at OpenBrace w r = absurd cc
-    at CloseBrace w r = absurd cc
-    at Quote w r = absurd cc
-    at Backslash w r = absurd cc
-    at Other w r = absurd cc
+    at k w r = absurd cc
 
 white_kind_of : (m : Mark) → is_white_mark m ≡ true → m.kind ≡ White
 white_kind_of m white = at m.kind white
   where
     at : (k : ByteKind) → elim k [ White ↦ true | _ ↦ false ] ≡ true → k ≡ White
     at White w = refl
-    at OpenBrace w = absurd cc
-    at CloseBrace w = absurd cc
-    at Quote w = absurd cc
-    at Backslash w = absurd cc
-    at Other w = absurd cc
+    at k w = absurd cc
 
 -- an element may end where white space or the end stands
 reads_end : (rest : List Mark) → IsElementEnd rest → (reading closed rest ≡ reading between rest) × (reading in_bare rest ≡ reading between rest)
@@ -306,11 +294,7 @@ reads_bare (m ∷ inside) rest all end =
   where
     at : (k : ByteKind) → not (elim k [ White ↦ true | _ ↦ false ]) ≡ true → (r : ListPlace → Reading) → with_mark in_bare k m (r (place_after in_bare k)) ≡ onto m.meant (r in_bare)
     at White w r = absurd cc
-    at OpenBrace w r = refl
-    at CloseBrace w r = refl
-    at Quote w r = refl
-    at Backslash w r = refl
-    at Other w r = refl
+    at k w r = refl
 
 -- an element in quotes
 pub reads_quotes : (inside rest : List Mark) (last : Mark) → no_quote inside ≡ true → last.kind ≡ Quote → reading in_quotes (inside ++ last ∷ rest) ≡ onto (meant inside) (reading closed rest)
@@ -322,11 +306,7 @@ reads_quotes (m ∷ inside) rest last all closes =
   where
     at : (k : ByteKind) → not (elim k [ Quote ↦ true | _ ↦ false ]) ≡ true → (r : ListPlace → Reading) → with_mark in_quotes k m (r (place_after in_quotes k)) ≡ onto m.meant (r in_quotes)
     at Quote w r = absurd cc
-    at OpenBrace w r = refl
-    at CloseBrace w r = refl
-    at White w r = refl
-    at Backslash w r = refl
-    at Other w r = refl
+    at k w r = refl
 
 -- a mark in braces, by the depth behind it
 pub braces_mark : (depth next : ℕ) (k : ByteKind) (m : Mark) (r : ListPlace → Reading) → depth_after depth k ≡ Some next → with_mark (in_braces depth) k m (r (place_after (in_braces depth) k)) ≡ onto m.written (r (in_braces next))
@@ -334,14 +314,11 @@ braces_mark zero next OpenBrace m r to = ap (λ d. onto m.written (r (in_braces 
 braces_mark (suc depth) next OpenBrace m r to = ap (λ d. onto m.written (r (in_braces d))) (some_is (suc (suc depth)) next to)
 braces_mark zero next CloseBrace m r to = absurd cc
 braces_mark (suc depth) next CloseBrace m r to = ap (λ d. onto m.written (r (in_braces d))) (some_is depth next to)
-braces_mark zero next White m r to = ap (λ d. onto m.written (r (in_braces d))) (some_is 0 next to)
 braces_mark (suc depth) next White m r to = ap (λ d. onto m.written (r (in_braces d))) (some_is (suc depth) next to)
-braces_mark zero next Quote m r to = ap (λ d. onto m.written (r (in_braces d))) (some_is 0 next to)
 braces_mark (suc depth) next Quote m r to = ap (λ d. onto m.written (r (in_braces d))) (some_is (suc depth) next to)
-braces_mark zero next Backslash m r to = ap (λ d. onto m.written (r (in_braces d))) (some_is 0 next to)
 braces_mark (suc depth) next Backslash m r to = ap (λ d. onto m.written (r (in_braces d))) (some_is (suc depth) next to)
-braces_mark zero next Other m r to = ap (λ d. onto m.written (r (in_braces d))) (some_is 0 next to)
 braces_mark (suc depth) next Other m r to = ap (λ d. onto m.written (r (in_braces d))) (some_is (suc depth) next to)
+braces_mark zero next k m r to = ap (λ d. onto m.written (r (in_braces d))) (some_is 0 next to)
 
 -- an element in braces
 pub reads_braces : (depth : ℕ) (inside rest : List Mark) (last : Mark) → are_balanced depth inside ≡ true → last.kind ≡ CloseBrace → reading (in_braces depth) (inside ++ last ∷ rest) ≡ onto (written inside) (reading closed rest)
@@ -371,10 +348,8 @@ reads_element element rest item (bare first others opening quote fits) end =
     at : (k : ByteKind) → k ≢ OpenBrace → k ≢ Quote → not (elim k [ White ↦ true | _ ↦ false ]) ≡ true → (r : ListPlace → Reading) → with_mark between k first (r (place_after between k)) ≡ begun (with_mark in_bare k first (r (place_after in_bare k)))
     at White o q w r = absurd cc
     at OpenBrace o q w r = absurd (o refl)
-    at CloseBrace o q w r = refl
     at Quote o q w r = absurd (q refl)
-    at Backslash o q w r = refl
-    at Other o q w r = refl
+    at k o q w r = refl
 
 -- the elements of a list
 reads_elements : (ms : List Mark) (items : List (List ℕ)) → AreElements ms items → reading between ms ≡ Ok ([], items)

@@ -12,7 +12,7 @@ use Rattle.tcl_text.proofs.BackslashLemmas.{escape_within}
 use Rattle.tcl_text.proofs.ListFormLemmas.{list_form-cons}
 use Rattle.tcl_text.proofs.ListReading.{reads_element}
 use Rattle.tcl_text.specs.declared.splitting.ByteKind.{ByteKind}
-use Rattle.tcl_text.specs.declared.splitting.ByteKind.TheVariants.{White, OpenBrace, CloseBrace, Quote, Backslash, Other}
+use Rattle.tcl_text.specs.declared.splitting.ByteKind.TheVariants.{White, OpenBrace, Quote, Backslash, Other}
 
 -- ── in braces ──
 
@@ -137,11 +137,7 @@ in_bare_kind m k is white opening quote = record {
   where
     at : (k : ByteKind) → k ≢ White → elim k [ White ↦ true | _ ↦ false ] ≡ false
     at White w = absurd (w refl)
-    at OpenBrace w = refl
-    at CloseBrace w = refl
-    at Quote w = refl
-    at Backslash w = refl
-    at Other w = refl
+    at k w = refl
 
 -- bytes, and how their marks stand in a bare element
 record Bytes (bytes form : List ℕ) : Type 0 where

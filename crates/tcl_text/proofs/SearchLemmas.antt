@@ -14,7 +14,7 @@ use Rattle.tcl_text.proofs.IntegerReading.{white_low}
 use Rattle.tcl_text.proofs.SplittingLemmas.{ReadsTo-start, run_turn, told as kind_told}
 use Rattle.tcl_text.specs.declared.fault.ListFault.{ListFault}
 use Rattle.tcl_text.specs.declared.splitting.ByteKind.{ByteKind}
-use Rattle.tcl_text.specs.declared.splitting.ByteKind.TheVariants.{White, OpenBrace, CloseBrace, Quote, Backslash, Other}
+use Rattle.tcl_text.specs.declared.splitting.ByteKind.TheVariants.{White, CloseBrace, Other}
 
 -- ── what was found in front ──
 
@@ -71,12 +71,9 @@ Passes-end item text rest found h none = h.told ∙ ap (or_found found) (has_non
 
 -- a byte of this kind stands for itself in an item, also in front
 abbrev pub is_plain : ByteKind → Bool
-is_plain White = false
-is_plain OpenBrace = false
 is_plain CloseBrace = true
-is_plain Quote = false
-is_plain Backslash = false
 is_plain Other = true
+is_plain other = false
 
 pub plain_black : (b : ℕ) → is_plain (kind_of b) ≡ true → is_white b ≡ false
 plain_black b plain = false_from_ne_true (is_white b) (λ white. let e : false ≡ true = sym (ap is_plain (white_kind b white)) ∙ plain in absurd cc)
@@ -86,12 +83,9 @@ unfolding kind_of
 plain_no_backslash b plain is = let e : false ≡ true = sym (ap (λ (byte : ℕ). is_plain (kind_of byte)) is) ∙ plain in absurd cc
 
 plain_begins : (k : ByteKind) → is_plain k ≡ true → begins_bare_element k ≡ true
-plain_begins White plain = absurd cc
-plain_begins OpenBrace plain = absurd cc
 plain_begins CloseBrace plain = refl
-plain_begins Quote plain = absurd cc
-plain_begins Backslash plain = absurd cc
 plain_begins Other plain = refl
+plain_begins k plain = absurd cc
 
 -- plain bytes from a place of a text up to another
 abbrev pub ArePlain : List ℕ → ℕ → ℕ → Type 0

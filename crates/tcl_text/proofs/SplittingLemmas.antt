@@ -85,16 +85,13 @@ reading_escape place b bs is = ap (reading place) (marks_escape b bs is)
 
 -- a byte in braces that isn't a brace
 in_braces_other : (depth : ℕ) (k : ByteKind) (m : Mark) (r : Reading) → k ≢ OpenBrace → k ≢ CloseBrace → (with_mark (in_braces depth) k m r ≡ onto m.written r) × (place_after (in_braces depth) k ≡ in_braces depth)
-in_braces_other zero White m r o c = (refl, refl)
 in_braces_other (suc d) White m r o c = (refl, refl)
 in_braces_other depth OpenBrace m r o c = absurd (o refl)
 in_braces_other depth CloseBrace m r o c = absurd (c refl)
-in_braces_other zero Quote m r o c = (refl, refl)
 in_braces_other (suc d) Quote m r o c = (refl, refl)
-in_braces_other zero Backslash m r o c = (refl, refl)
 in_braces_other (suc d) Backslash m r o c = (refl, refl)
-in_braces_other zero Other m r o c = (refl, refl)
 in_braces_other (suc d) Other m r o c = (refl, refl)
+in_braces_other zero k m r o c = (refl, refl)
 
 in_braces_open : (depth : ℕ) (m : Mark) (r : Reading) → with_mark (in_braces depth) OpenBrace m r ≡ onto m.written r
 in_braces_open zero m r = refl
@@ -177,22 +174,14 @@ plain_byte true b bs slash inner =
     reading_byte in_quotes b bs (λ is. slash (eqb-true b 92 (told b Backslash is))) ∙ at (kind_of b) (λ is. both_ways (nat_eq b 34) inner (told b Quote is))
   where
     at : (k : ByteKind) → k ≢ Quote → with_mark in_quotes k (byte_mark b) (reading (place_after in_quotes k) (marks bs)) ≡ onto (b ∷ []) (reading in_quotes (marks bs))
-    at White other = refl
-    at OpenBrace other = refl
-    at CloseBrace other = refl
     at Quote other = absurd (other refl)
-    at Backslash other = refl
-    at Other other = refl
+    at k other = refl
 plain_byte false b bs slash inner =
     reading_byte in_bare b bs (λ is. slash (eqb-true b 92 (told b Backslash is))) ∙ at (kind_of b) (λ is. both_ways (is_white b) inner (told b White is))
   where
     at : (k : ByteKind) → k ≢ White → with_mark in_bare k (byte_mark b) (reading (place_after in_bare k) (marks bs)) ≡ onto (b ∷ []) (reading in_bare (marks bs))
     at White other = absurd (other refl)
-    at OpenBrace other = refl
-    at CloseBrace other = refl
-    at Quote other = refl
-    at Backslash other = refl
-    at Other other = refl
+    at k other = refl
 
 pub ReadsTo-start : (place : ListPlace) (text : List ℕ) → ReadsTo place text 0 [] place
 ReadsTo-start place text = sym (onto-nil (reading place (marks text)))
@@ -280,7 +269,5 @@ reading_between (m ∷ ms) = at m.kind m (reading (place_after between m.kind) m
     at : (k : ByteKind) (m : Mark) (r : Reading) → reading between ms ≡ ended (elements (reading between ms)) → with_mark between k m (reading (place_after between k) ms) ≡ ended (elements (with_mark between k m (reading (place_after between k) ms)))
     at White m r behind = behind
     at OpenBrace m r behind = opened (reading (in_braces 0) ms)
-    at CloseBrace m r behind = opened (onto m.meant (reading in_bare ms))
     at Quote m r behind = opened (reading in_quotes ms)
-    at Backslash m r behind = opened (onto m.meant (reading in_bare ms))
-    at Other m r behind = opened (onto m.meant (reading in_bare ms))
+    at k m r behind = opened (onto m.meant (reading in_bare ms))

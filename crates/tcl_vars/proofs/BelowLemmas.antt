@@ -23,6 +23,9 @@ below-at level (f ∷ fs) name link h e = by (bytes_eq name f.0) e (λ r. below-
 pub LinksDescend-frames : (store : Store) → FramesDescend store → LinksDescend store
 LinksDescend-frames store down place link e = below-at place.frame (frame_at store place.frame) place.variable link (down place.frame) e
 
+pub links_descend : {held store : Store} → held ≡ store → FramesDescend held → LinksDescend store
+links_descend {held} {store} is down = LinksDescend-frames store (subst FramesDescend is down)
+
 pub AllBelow-with_value : (level : ℕ) (frame : Frame) (name : List ℕ) (content : Content) → AllBelow level frame → IsBelow level content → AllBelow level (with_value frame name content)
 AllBelow-with_value level [] name content h below = (below, tt)
 AllBelow-with_value level (f ∷ fs) name content h below = by (bytes_eq name f.0) (AllBelow-with_value level fs name content h.1 below)

@@ -11,7 +11,7 @@ use Rattle.tcl_words.specs.Grammar.{begins_space, AreSpaces, IsBraced, IsUnclose
 use Rattle.tcl_words.specs.Grammar.IsBraced.{none, byte, pair, continuation, braces}
 use Rattle.tcl_words.specs.Grammar.IsUnclosed.{ends, backslash, opens}
 use Rattle.tcl_words.specs.declared.kind.Kind.{Kind}
-use Rattle.tcl_words.specs.declared.kind.Kind.TheVariants.{Blank, Newline, Semicolon, Hash, Dollar, Quote, OpenBracket, CloseBracket, OpenBrace, Expansion, CloseBrace, CloseParen, Backslash, Continuation, Other}
+use Rattle.tcl_words.specs.declared.kind.Kind.TheVariants.{CloseBracket, OpenBrace, Expansion, CloseBrace, CloseParen, Backslash, Continuation}
 use Rattle.tcl_words.specs.declared.kind.BytePlace.TheVariants.{InBraces, PastBraces}
 use Rattle.tcl_text.specs.declared.fault.ParseFault.TheVariants.{MissingBrace}
 use Rattle.tcl_words.proofs.ClassLemmas.{byte_is, expansion_or, newline_or}
@@ -28,14 +28,7 @@ byte_kinds true CloseBracket depth b text h1 h2 h3 h4 h5 = refl
 byte_kinds false CloseBracket depth b text h1 h2 h3 h4 h5 = refl
 byte_kinds true CloseParen depth b text h1 h2 h3 h4 h5 = refl
 byte_kinds false CloseParen depth b text h1 h2 h3 h4 h5 = refl
-byte_kinds inside Blank depth b text h1 h2 h3 h4 h5 = refl
-byte_kinds inside Newline depth b text h1 h2 h3 h4 h5 = refl
-byte_kinds inside Semicolon depth b text h1 h2 h3 h4 h5 = refl
-byte_kinds inside Hash depth b text h1 h2 h3 h4 h5 = refl
-byte_kinds inside Dollar depth b text h1 h2 h3 h4 h5 = refl
-byte_kinds inside Quote depth b text h1 h2 h3 h4 h5 = refl
-byte_kinds inside OpenBracket depth b text h1 h2 h3 h4 h5 = refl
-byte_kinds inside Other depth b text h1 h2 h3 h4 h5 = refl
+byte_kinds inside kind depth b text h1 h2 h3 h4 h5 = refl
 
 byte_step : (level : Level) (depth b : ℕ) (text : List ℕ) (at : ℕ) → b ≢ 123 → b ≢ 125 → b ≢ 92 →
     rest_of (b ∷ text) level 0 (InBraces depth) at ≡ put (changed (put_bytes (b ∷ []) ∷ [])) (rest_of text level 0 (InBraces depth) (at + 1))

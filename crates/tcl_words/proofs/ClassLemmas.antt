@@ -111,13 +111,6 @@ expansion_or P false x y = y
 
 plain_bare : (inside : Bool) (kind : Kind) (b at : ℕ) (text : List ℕ) → class_ends inside kind text ≡ false → is_plain kind ≡ true →
     in_bare (class_means inside kind text) b at text ≡ on (bytes (b ∷ []) ∷ []) 0 (Text Bare)
-plain_bare inside Blank b at text h p = cc
-plain_bare inside Newline b at text h p = cc
-plain_bare inside Semicolon b at text h p = cc
-plain_bare inside Dollar b at text h p = cc
-plain_bare inside OpenBracket b at text h p = cc
-plain_bare inside Backslash b at text h p = cc
-plain_bare inside Continuation b at text h p = cc
 plain_bare true CloseBracket b at text h p = cc
 plain_bare false CloseBracket b at text h p = refl
 plain_bare inside OpenBrace b at text h p = expansion_or (λ k. in_bare k b at text ≡ on (bytes (b ∷ []) ∷ []) 0 (Text Bare)) (begins_expansion text) refl refl
@@ -128,6 +121,7 @@ plain_bare inside Quote b at text h p = refl
 plain_bare inside Expansion b at text h p = refl
 plain_bare inside CloseBrace b at text h p = refl
 plain_bare inside Other b at text h p = refl
+plain_bare inside kind b at text h p = cc
 
 plain_quoted : (inside : Bool) (kind : Kind) (b : ℕ) (text : List ℕ) → kind ≢ Quote → is_plain kind ≡ true →
     in_quotes (class_means inside kind text) b text ≡ on (bytes (b ∷ []) ∷ []) 0 (Text Quotes)
@@ -141,13 +135,7 @@ plain_quoted false CloseBracket b text h p = refl
 plain_quoted inside OpenBrace b text h p = expansion_or (λ k. in_quotes k b text ≡ on (bytes (b ∷ []) ∷ []) 0 (Text Quotes)) (begins_expansion text) refl refl
 plain_quoted true CloseParen b text h p = refl
 plain_quoted false CloseParen b text h p = refl
-plain_quoted inside Blank b text h p = refl
-plain_quoted inside Newline b text h p = refl
-plain_quoted inside Semicolon b text h p = refl
-plain_quoted inside Hash b text h p = refl
-plain_quoted inside Expansion b text h p = refl
-plain_quoted inside CloseBrace b text h p = refl
-plain_quoted inside Other b text h p = refl
+plain_quoted inside kind b text h p = refl
 
 plain_parensed : (inside : Bool) (kind : Kind) (b : ℕ) (text : List ℕ) → (inside ≡ true → kind ≢ CloseParen) → is_plain kind ≡ true →
     in_parens (class_means inside kind text) b text ≡ on (bytes (b ∷ []) ∷ []) 0 (Text Parens)
@@ -160,14 +148,7 @@ plain_parensed false CloseBracket b text h p = refl
 plain_parensed inside OpenBrace b text h p = expansion_or (λ k. in_parens k b text ≡ on (bytes (b ∷ []) ∷ []) 0 (Text Parens)) (begins_expansion text) refl refl
 plain_parensed true CloseParen b text h p = absurd (h refl refl)
 plain_parensed false CloseParen b text h p = refl
-plain_parensed inside Blank b text h p = refl
-plain_parensed inside Newline b text h p = refl
-plain_parensed inside Semicolon b text h p = refl
-plain_parensed inside Hash b text h p = refl
-plain_parensed inside Quote b text h p = refl
-plain_parensed inside Expansion b text h p = refl
-plain_parensed inside CloseBrace b text h p = refl
-plain_parensed inside Other b text h p = refl
+plain_parensed inside kind b text h p = refl
 
 -- a byte is not of a class whose byte it isn't
 pub other_class : (b c : ℕ) (kind : Kind) → (b == c) ≡ false → (class_of b ≡ kind → b ≡ c) → class_of b ≢ kind

@@ -199,232 +199,130 @@ dollar_back mode b c (x ∷ ys) tail k closer = elim (cases_Bool (starts_with na
 move_dollar : (place : BytePlace) (b at k : ℕ) (X Y : List ℕ) → ((mode : Mode) → FitsStep (at_dollar mode (dollar_of X) b X).step k → at_dollar mode (dollar_of X) b X ≡ at_dollar mode (dollar_of Y) b Y) →
     FitsStep (move_of place Dollar b at X).step k → move_of place Dollar b at X ≡ move_of place Dollar b at Y
 move_dollar Start b at k X Y same fits = ap (λ m. change_before (command_begins at) (change_before (word_begins BareForm false at) m)) (same Bare fits)
-move_dollar Comment b at k X Y same fits = refl
 move_dollar Between b at k X Y same fits = ap (change_before (word_begins BareForm false at)) (same Bare fits)
 move_dollar Expanded b at k X Y same fits = ap (change_before (word_begins BareForm true (at - 3))) (same Bare fits)
 move_dollar (Text Bare) b at k X Y same fits = same Bare fits
 move_dollar (Text Quotes) b at k X Y same fits = same Quotes fits
 move_dollar (Text Parens) b at k X Y same fits = same Parens fits
-move_dollar PastQuotes b at k X Y same fits = refl
-move_dollar (InBraces depth) b at k X Y same fits = refl
-move_dollar PastBraces b at k X Y same fits = refl
+move_dollar place b at k X Y same fits = refl
 
 move_backslash : (place : BytePlace) (b at : ℕ) (X Y : List ℕ) → escape X ≡ escape Y → take 1 X ≡ take 1 Y → move_of place Backslash b at X ≡ move_of place Backslash b at Y
-move_backslash Start b at X Y e f = rw e refl
 move_backslash Comment b at X Y e f = rw f refl
-move_backslash Between b at X Y e f = rw e refl
-move_backslash Expanded b at X Y e f = rw e refl
 move_backslash (Text Bare) b at X Y e f = rw e refl
 move_backslash (Text Quotes) b at X Y e f = rw e refl
 move_backslash (Text Parens) b at X Y e f = rw e refl
 move_backslash PastQuotes b at X Y e f = refl
 move_backslash (InBraces depth) b at X Y e f = rw f refl
 move_backslash PastBraces b at X Y e f = refl
+move_backslash place b at X Y e f = rw e refl
 
 move_continuation : (place : BytePlace) (b at : ℕ) (X Y : List ℕ) → escape X ≡ escape Y → take 1 X ≡ take 1 Y → move_of place Continuation b at X ≡ move_of place Continuation b at Y
-move_continuation Start b at X Y e f = rw e refl
 move_continuation Comment b at X Y e f = rw f refl
-move_continuation Between b at X Y e f = rw e refl
-move_continuation Expanded b at X Y e f = rw e refl
 move_continuation (Text Bare) b at X Y e f = rw e refl
 move_continuation (Text Quotes) b at X Y e f = rw e refl
 move_continuation (Text Parens) b at X Y e f = rw e refl
-move_continuation PastQuotes b at X Y e f = rw e refl
-move_continuation (InBraces depth) b at X Y e f = rw e refl
-move_continuation PastBraces b at X Y e f = rw e refl
+move_continuation place b at X Y e f = rw e refl
 
 none_backslash : (place : BytePlace) (b at c : ℕ) (tail : List ℕ) → IsCloser c → FitsStep (move_of place Backslash b at (c ∷ tail)).step 0 → ⊥
-none_backslash Start b at c tail closer fits = omega (arith, fits, escape_some c tail closer)
 none_backslash Comment b at c tail closer fits = omega (arith, fits)
-none_backslash Between b at c tail closer fits = omega (arith, fits, escape_some c tail closer)
-none_backslash Expanded b at c tail closer fits = omega (arith, fits, escape_some c tail closer)
 none_backslash (Text Bare) b at c tail closer fits = omega (arith, fits, escape_some c tail closer)
 none_backslash (Text Quotes) b at c tail closer fits = omega (arith, fits, escape_some c tail closer)
 none_backslash (Text Parens) b at c tail closer fits = omega (arith, fits, escape_some c tail closer)
 none_backslash PastQuotes b at c tail closer fits = fits
 none_backslash (InBraces depth) b at c tail closer fits = omega (arith, fits)
 none_backslash PastBraces b at c tail closer fits = fits
+none_backslash place b at c tail closer fits = omega (arith, fits, escape_some c tail closer)
 
 none_continuation : (place : BytePlace) (b at c : ℕ) (tail : List ℕ) → IsCloser c → FitsStep (move_of place Continuation b at (c ∷ tail)).step 0 → ⊥
-none_continuation Start b at c tail closer fits = omega (arith, fits, escape_some c tail closer)
 none_continuation Comment b at c tail closer fits = omega (arith, fits)
-none_continuation Between b at c tail closer fits = omega (arith, fits, escape_some c tail closer)
-none_continuation Expanded b at c tail closer fits = omega (arith, fits, escape_some c tail closer)
 none_continuation (Text Bare) b at c tail closer fits = omega (arith, fits, escape_some c tail closer)
 none_continuation (Text Quotes) b at c tail closer fits = omega (arith, fits, escape_some c tail closer)
 none_continuation (Text Parens) b at c tail closer fits = omega (arith, fits, escape_some c tail closer)
-none_continuation PastQuotes b at c tail closer fits = omega (arith, fits, escape_some c tail closer)
-none_continuation (InBraces depth) b at c tail closer fits = omega (arith, fits, escape_some c tail closer)
-none_continuation PastBraces b at c tail closer fits = omega (arith, fits, escape_some c tail closer)
+none_continuation place b at c tail closer fits = omega (arith, fits, escape_some c tail closer)
 
 move_blank : (place : BytePlace) (b at : ℕ) (X Y : List ℕ) → move_of place Blank b at X ≡ move_of place Blank b at Y
-move_blank Start b at X Y = refl
-move_blank Comment b at X Y = refl
-move_blank Between b at X Y = refl
-move_blank Expanded b at X Y = refl
 move_blank (Text Bare) b at X Y = refl
 move_blank (Text Quotes) b at X Y = refl
 move_blank (Text Parens) b at X Y = refl
-move_blank PastQuotes b at X Y = refl
-move_blank (InBraces depth) b at X Y = refl
-move_blank PastBraces b at X Y = refl
+move_blank place b at X Y = refl
 
 move_newline : (place : BytePlace) (b at : ℕ) (X Y : List ℕ) → move_of place Newline b at X ≡ move_of place Newline b at Y
-move_newline Start b at X Y = refl
-move_newline Comment b at X Y = refl
-move_newline Between b at X Y = refl
-move_newline Expanded b at X Y = refl
 move_newline (Text Bare) b at X Y = refl
 move_newline (Text Quotes) b at X Y = refl
 move_newline (Text Parens) b at X Y = refl
-move_newline PastQuotes b at X Y = refl
-move_newline (InBraces depth) b at X Y = refl
-move_newline PastBraces b at X Y = refl
+move_newline place b at X Y = refl
 
 move_semicolon : (place : BytePlace) (b at : ℕ) (X Y : List ℕ) → move_of place Semicolon b at X ≡ move_of place Semicolon b at Y
-move_semicolon Start b at X Y = refl
-move_semicolon Comment b at X Y = refl
-move_semicolon Between b at X Y = refl
-move_semicolon Expanded b at X Y = refl
 move_semicolon (Text Bare) b at X Y = refl
 move_semicolon (Text Quotes) b at X Y = refl
 move_semicolon (Text Parens) b at X Y = refl
-move_semicolon PastQuotes b at X Y = refl
-move_semicolon (InBraces depth) b at X Y = refl
-move_semicolon PastBraces b at X Y = refl
+move_semicolon place b at X Y = refl
 
 move_hash : (place : BytePlace) (b at : ℕ) (X Y : List ℕ) → move_of place Hash b at X ≡ move_of place Hash b at Y
-move_hash Start b at X Y = refl
-move_hash Comment b at X Y = refl
-move_hash Between b at X Y = refl
-move_hash Expanded b at X Y = refl
 move_hash (Text Bare) b at X Y = refl
 move_hash (Text Quotes) b at X Y = refl
 move_hash (Text Parens) b at X Y = refl
-move_hash PastQuotes b at X Y = refl
-move_hash (InBraces depth) b at X Y = refl
-move_hash PastBraces b at X Y = refl
+move_hash place b at X Y = refl
 
 move_quote : (place : BytePlace) (b at : ℕ) (X Y : List ℕ) → move_of place Quote b at X ≡ move_of place Quote b at Y
-move_quote Start b at X Y = refl
-move_quote Comment b at X Y = refl
-move_quote Between b at X Y = refl
-move_quote Expanded b at X Y = refl
 move_quote (Text Bare) b at X Y = refl
 move_quote (Text Quotes) b at X Y = refl
 move_quote (Text Parens) b at X Y = refl
-move_quote PastQuotes b at X Y = refl
-move_quote (InBraces depth) b at X Y = refl
-move_quote PastBraces b at X Y = refl
+move_quote place b at X Y = refl
 
 move_openbracket : (place : BytePlace) (b at : ℕ) (X Y : List ℕ) → move_of place OpenBracket b at X ≡ move_of place OpenBracket b at Y
-move_openbracket Start b at X Y = refl
-move_openbracket Comment b at X Y = refl
-move_openbracket Between b at X Y = refl
-move_openbracket Expanded b at X Y = refl
 move_openbracket (Text Bare) b at X Y = refl
 move_openbracket (Text Quotes) b at X Y = refl
 move_openbracket (Text Parens) b at X Y = refl
-move_openbracket PastQuotes b at X Y = refl
-move_openbracket (InBraces depth) b at X Y = refl
-move_openbracket PastBraces b at X Y = refl
+move_openbracket place b at X Y = refl
 
 move_closebracket : (place : BytePlace) (b at : ℕ) (X Y : List ℕ) → move_of place CloseBracket b at X ≡ move_of place CloseBracket b at Y
-move_closebracket Start b at X Y = refl
-move_closebracket Comment b at X Y = refl
-move_closebracket Between b at X Y = refl
-move_closebracket Expanded b at X Y = refl
 move_closebracket (Text Bare) b at X Y = refl
 move_closebracket (Text Quotes) b at X Y = refl
 move_closebracket (Text Parens) b at X Y = refl
-move_closebracket PastQuotes b at X Y = refl
-move_closebracket (InBraces depth) b at X Y = refl
-move_closebracket PastBraces b at X Y = refl
+move_closebracket place b at X Y = refl
 
 move_openbrace : (place : BytePlace) (b at : ℕ) (X Y : List ℕ) → move_of place OpenBrace b at X ≡ move_of place OpenBrace b at Y
-move_openbrace Start b at X Y = refl
-move_openbrace Comment b at X Y = refl
-move_openbrace Between b at X Y = refl
-move_openbrace Expanded b at X Y = refl
 move_openbrace (Text Bare) b at X Y = refl
 move_openbrace (Text Quotes) b at X Y = refl
 move_openbrace (Text Parens) b at X Y = refl
-move_openbrace PastQuotes b at X Y = refl
-move_openbrace (InBraces depth) b at X Y = refl
-move_openbrace PastBraces b at X Y = refl
+move_openbrace place b at X Y = refl
 
 move_expansion : (place : BytePlace) (b at : ℕ) (X Y : List ℕ) → move_of place Expansion b at X ≡ move_of place Expansion b at Y
-move_expansion Start b at X Y = refl
-move_expansion Comment b at X Y = refl
-move_expansion Between b at X Y = refl
-move_expansion Expanded b at X Y = refl
 move_expansion (Text Bare) b at X Y = refl
 move_expansion (Text Quotes) b at X Y = refl
 move_expansion (Text Parens) b at X Y = refl
-move_expansion PastQuotes b at X Y = refl
-move_expansion (InBraces depth) b at X Y = refl
-move_expansion PastBraces b at X Y = refl
+move_expansion place b at X Y = refl
 
 move_closebrace : (place : BytePlace) (b at : ℕ) (X Y : List ℕ) → move_of place CloseBrace b at X ≡ move_of place CloseBrace b at Y
-move_closebrace Start b at X Y = refl
-move_closebrace Comment b at X Y = refl
-move_closebrace Between b at X Y = refl
-move_closebrace Expanded b at X Y = refl
 move_closebrace (Text Bare) b at X Y = refl
 move_closebrace (Text Quotes) b at X Y = refl
 move_closebrace (Text Parens) b at X Y = refl
-move_closebrace PastQuotes b at X Y = refl
-move_closebrace (InBraces depth) b at X Y = refl
-move_closebrace PastBraces b at X Y = refl
+move_closebrace place b at X Y = refl
 
 move_closeparen : (place : BytePlace) (b at : ℕ) (X Y : List ℕ) → move_of place CloseParen b at X ≡ move_of place CloseParen b at Y
-move_closeparen Start b at X Y = refl
-move_closeparen Comment b at X Y = refl
-move_closeparen Between b at X Y = refl
-move_closeparen Expanded b at X Y = refl
 move_closeparen (Text Bare) b at X Y = refl
 move_closeparen (Text Quotes) b at X Y = refl
 move_closeparen (Text Parens) b at X Y = refl
-move_closeparen PastQuotes b at X Y = refl
-move_closeparen (InBraces depth) b at X Y = refl
-move_closeparen PastBraces b at X Y = refl
+move_closeparen place b at X Y = refl
 
 move_other : (place : BytePlace) (b at : ℕ) (X Y : List ℕ) → move_of place Other b at X ≡ move_of place Other b at Y
-move_other Start b at X Y = refl
-move_other Comment b at X Y = refl
-move_other Between b at X Y = refl
-move_other Expanded b at X Y = refl
 move_other (Text Bare) b at X Y = refl
 move_other (Text Quotes) b at X Y = refl
 move_other (Text Parens) b at X Y = refl
-move_other PastQuotes b at X Y = refl
-move_other (InBraces depth) b at X Y = refl
-move_other PastBraces b at X Y = refl
+move_other place b at X Y = refl
 
 -- a bracket or a parenthesis that ends nothing is as any other byte
 outside_closebracket : (place : BytePlace) (b at n : ℕ) (X Y : List ℕ) → FitsStep (move_of place CloseBracket b at X).step n → move_of place CloseBracket b at X ≡ move_of place Other b at Y
-outside_closebracket Start b at n X Y fits = absurd fits
 outside_closebracket Comment b at n X Y fits = refl
-outside_closebracket Between b at n X Y fits = absurd fits
-outside_closebracket Expanded b at n X Y fits = absurd fits
-outside_closebracket (Text Bare) b at n X Y fits = absurd fits
 outside_closebracket (Text Quotes) b at n X Y fits = refl
 outside_closebracket (Text Parens) b at n X Y fits = refl
-outside_closebracket PastQuotes b at n X Y fits = absurd fits
 outside_closebracket (InBraces depth) b at n X Y fits = refl
-outside_closebracket PastBraces b at n X Y fits = absurd fits
+outside_closebracket place b at n X Y fits = absurd fits
 
 outside_closeparen : (place : BytePlace) (b at n : ℕ) (X Y : List ℕ) → FitsStep (move_of place CloseParen b at X).step n → move_of place CloseParen b at X ≡ move_of place Other b at Y
-outside_closeparen Start b at n X Y fits = refl
-outside_closeparen Comment b at n X Y fits = refl
-outside_closeparen Between b at n X Y fits = refl
-outside_closeparen Expanded b at n X Y fits = refl
-outside_closeparen (Text Bare) b at n X Y fits = refl
-outside_closeparen (Text Quotes) b at n X Y fits = refl
 outside_closeparen (Text Parens) b at n X Y fits = absurd fits
-outside_closeparen PastQuotes b at n X Y fits = refl
-outside_closeparen (InBraces depth) b at n X Y fits = refl
-outside_closeparen PastBraces b at n X Y fits = refl
+outside_closeparen place b at n X Y fits = refl
 
 cut_openbrace : (place : BytePlace) (b at c : ℕ) (xs tail : List ℕ) → IsCloser c → FitsStep (move_of place (class_means true OpenBrace (xs ++ c ∷ tail)) b at (xs ++ c ∷ tail)).step (length xs) →
     move_of place (class_means true OpenBrace (xs ++ c ∷ tail)) b at (xs ++ c ∷ tail) ≡ move_of place (class_means false OpenBrace xs) b at xs

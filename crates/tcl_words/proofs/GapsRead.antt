@@ -13,7 +13,7 @@ use Rattle.tcl_words.specs.Grammar.AreBlanks.{none as no_blanks, blank as one_bl
 use Rattle.tcl_words.specs.Grammar.IsNote.{none as no_note, byte as note_byte, pair as note_pair}
 use Rattle.tcl_words.specs.Grammar.IsGap.{none as no_gap, blank, continuation, separator, comment}
 use Rattle.tcl_words.specs.declared.kind.Kind.{Kind}
-use Rattle.tcl_words.specs.declared.kind.Kind.TheVariants.{Blank, Newline, Semicolon, Hash, Dollar, Quote, OpenBracket, CloseBracket, OpenBrace, Expansion, CloseBrace, CloseParen, Backslash, Continuation, Other}
+use Rattle.tcl_words.specs.declared.kind.Kind.TheVariants.{Blank, Newline, Semicolon, Hash, CloseBracket, OpenBrace, CloseParen, Backslash, Continuation}
 use Rattle.tcl_words.specs.declared.kind.BytePlace.{BytePlace}
 use Rattle.tcl_words.specs.declared.kind.BytePlace.TheVariants.{Start, Comment, Between}
 use Rattle.tcl_text.specs.declared.fault.ParseFault.TheVariants.{MissingBracket}
@@ -90,15 +90,7 @@ note_kinds false CloseBracket text h1 h2 h3 = refl
 note_kinds true CloseParen text h1 h2 h3 = refl
 note_kinds false CloseParen text h1 h2 h3 = refl
 note_kinds inside OpenBrace text h1 h2 h3 = expansion_or (λ k. in_comment k text ≡ on [] 0 Comment) (begins_expansion text) refl refl
-note_kinds inside Blank text h1 h2 h3 = refl
-note_kinds inside Semicolon text h1 h2 h3 = refl
-note_kinds inside Hash text h1 h2 h3 = refl
-note_kinds inside Dollar text h1 h2 h3 = refl
-note_kinds inside Quote text h1 h2 h3 = refl
-note_kinds inside OpenBracket text h1 h2 h3 = refl
-note_kinds inside Expansion text h1 h2 h3 = refl
-note_kinds inside CloseBrace text h1 h2 h3 = refl
-note_kinds inside Other text h1 h2 h3 = refl
+note_kinds inside kind text h1 h2 h3 = refl
 
 note_step : (level : Level) (b : ℕ) (text : List ℕ) (at : ℕ) → b ≢ 10 → b ≢ 92 → rest_of (b ∷ text) level 0 Comment at ≡ rest_of text level 0 Comment (at + 1)
 note_step level b text at h k =
@@ -185,12 +177,7 @@ start_kinds true CloseParen b at text h k n = refl
 start_kinds false CloseParen b at text h k n = refl
 start_kinds inside Backslash b at text h k n = rw h refl
 start_kinds inside OpenBrace b at text h k n = expansion_or (λ c. move_of Start c b at text ≡ change_before (command_begins at) (move_of Between c b at text)) (begins_expansion text) refl refl
-start_kinds inside Dollar b at text h k n = refl
-start_kinds inside Quote b at text h k n = refl
-start_kinds inside OpenBracket b at text h k n = refl
-start_kinds inside Expansion b at text h k n = refl
-start_kinds inside CloseBrace b at text h k n = refl
-start_kinds inside Other b at text h k n = refl
+start_kinds inside kind b at text h k n = refl
 
 pub start_read : (level : Level) (text : List ℕ) (at : ℕ) → ends_word level.inside text ≡ false → begins 35 text ≡ false → rest_of text level 0 Start at ≡ put (changed (command_begins at ∷ [])) (rest_of text level 0 Between at)
 start_read level [] at h k = cc

@@ -12,7 +12,7 @@ use Rattle.tcl_words.specs.Grammar.IsEnding.{ends as ends_command, faulty as fau
 use Rattle.tcl_words.specs.Grammar.IsLast.{ends, comment, faulty}
 use Rattle.tcl_words.specs.declared.kind.Mode.TheVariants.{Parens}
 use Rattle.tcl_words.specs.declared.kind.Kind.{Kind}
-use Rattle.tcl_words.specs.declared.kind.Kind.TheVariants.{Blank, Newline, Semicolon, Hash, Dollar, Quote, OpenBracket, CloseBracket, OpenBrace, Expansion, CloseBrace, CloseParen, Backslash, Continuation, Other}
+use Rattle.tcl_words.specs.declared.kind.Kind.TheVariants.{Blank, Newline, Semicolon, CloseBracket, Backslash}
 use Rattle.tcl_words.specs.declared.script.Piece.{Piece}
 use Rattle.tcl_words.specs.declared.script.Word.{Word}
 use Rattle.tcl_words.specs.declared.script.Command.{Command}
@@ -151,16 +151,7 @@ further_stopped room inside n at b (c ∷ text) Backslash e ih fits h =
     let next : c ≡ 10 = sym (eqb-true 10 c (both (nat_eq 10 c) true h).0) in
     subst (λ t. FoundFurther room inside at t) (sym (ap (λ x. x ∷ c ∷ text) same ∙ ap (λ x. 92 ∷ x ∷ text) next))
     (further_blanked room inside at (at + 2) (92 ∷ 10 ∷ []) text (λ blanks k. continued_blanks k) refl (ih.further (at + 2) text (omega arith)))
-further_stopped room inside n at b text Hash e ih fits h = cc
-further_stopped room inside n at b text Dollar e ih fits h = cc
-further_stopped room inside n at b text Quote e ih fits h = cc
-further_stopped room inside n at b text OpenBracket e ih fits h = cc
-further_stopped room inside n at b text OpenBrace e ih fits h = cc
-further_stopped room inside n at b text Expansion e ih fits h = cc
-further_stopped room inside n at b text CloseBrace e ih fits h = cc
-further_stopped room inside n at b text CloseParen e ih fits h = cc
-further_stopped room inside n at b text Continuation e ih fits h = cc
-further_stopped room inside n at b text Other e ih fits h = cc
+further_stopped room inside n at b text kind e ih fits h = cc
 
 further_cut : (room : ℕ) (inside : Bool) (n at b : ℕ) (text : List ℕ) → InnerCuts room → Known room inside n → length text ≤ n → FoundFurther room inside at (b ∷ text)
 further_cut room inside n at b text inner ih fits = elim (decided (ends_word inside (b ∷ text))) [
@@ -217,16 +208,7 @@ script_stopped room inside n at b (c ∷ text) Backslash e ih fits h =
     let next : c ≡ 10 = sym (eqb-true 10 c (both (nat_eq 10 c) true h).0) in
     subst (λ t. FoundScript room inside at t) (sym (ap (λ x. x ∷ c ∷ text) same ∙ ap (λ x. 92 ∷ x ∷ text) next))
     (script_gapped room inside at (at + 2) (92 ∷ 10 ∷ []) text (λ gap k. continuation k) refl (ih.scripts (at + 2) text (omega arith)))
-script_stopped room inside n at b text Hash e ih fits h = cc
-script_stopped room inside n at b text Dollar e ih fits h = cc
-script_stopped room inside n at b text Quote e ih fits h = cc
-script_stopped room inside n at b text OpenBracket e ih fits h = cc
-script_stopped room inside n at b text OpenBrace e ih fits h = cc
-script_stopped room inside n at b text Expansion e ih fits h = cc
-script_stopped room inside n at b text CloseBrace e ih fits h = cc
-script_stopped room inside n at b text CloseParen e ih fits h = cc
-script_stopped room inside n at b text Continuation e ih fits h = cc
-script_stopped room inside n at b text Other e ih fits h = cc
+script_stopped room inside n at b text kind e ih fits h = cc
 
 -- a comment ends at a newline, or goes on to the end of the text
 abbrev NoteCut : List ℕ → Type 0

@@ -22,7 +22,7 @@ use Rattle.tcl_words.specs.Classes.{begins_expansion, begins_newline}
 use Rattle.tcl_words.specs.declared.script.Piece.TheVariants.{Variable}
 use Rattle.tcl_words.specs.declared.script.WordForm.TheVariants.{Braced as BracedForm}
 use Rattle.tcl_words.specs.declared.kind.BytePlace.{BytePlace}
-use Rattle.tcl_words.specs.declared.kind.BytePlace.TheVariants.{Start, Comment, Between, Expanded, Text, PastQuotes, InBraces, PastBraces}
+use Rattle.tcl_words.specs.declared.kind.BytePlace.TheVariants.{Start, Comment, Between, Expanded, Text, InBraces, PastBraces}
 use Rattle.tcl_words.specs.declared.kind.Mode.{Mode}
 use Rattle.tcl_words.specs.declared.kind.Mode.TheVariants.{Bare, Quotes, Parens}
 use Rattle.tcl_words.specs.declared.kind.Opener.{Opener}
@@ -32,7 +32,7 @@ use Rattle.tcl_words.specs.declared.script.Piece.{Piece}
 use Rattle.tcl_text.specs.declared.fault.ParseFault.{ParseFault}
 use Rattle.tcl_words.proofs.Escapes.{cut_past, escape_ascii, escape_itself}
 use Rattle.tcl_text.proofs.BackslashLemmas.{escape_short, escape_within}
-use Rattle.tcl_words.proofs.Joins.{slice_none, slice_one, slice_split, slice_behind, text_bytes, brace_bytes, text_piece, text_opened, bare_ended, word_ended, command_ended}
+use Rattle.tcl_words.proofs.Joins.{slice_none, slice_one, slice_split, slice_behind, text_bytes, brace_bytes, text_piece, text_opened, bare_ended}
 
 -- the move is given otherwise
 pub same_move : (old new : Parts) (s : List ℕ) (at : ℕ) (place : BytePlace) (m m' : ByteMove) (result : Result Step ParseFault) → m ≡ m' → DoesMove old new s at place m' result → DoesMove old new s at place m result
@@ -41,10 +41,6 @@ same_move old new s at place m m' result e does = let P : ByteMove → Type 0 = 
 put_first : (c : Change) (cs : List Change) (r : Read) → put (changed (c ∷ cs)) r ≡ put (changed_by c) (put (changed cs) r)
 put_first c cs (Ok rest) = refl
 put_first c cs (Err fault) = refl
-
-put_none : (r : Read) → put (changed []) r ≡ r
-put_none (Ok rest) = refl
-put_none (Err fault) = refl
 
 -- a first change of the parts, and then what the byte does
 pub first : (old mid new : Parts) (s : List ℕ) (at : ℕ) (place place' : BytePlace) (c : Change) (m : ByteMove) (result : Result Step ParseFault) →
@@ -57,21 +53,6 @@ first old mid new s at place place' c m (Ok (Within opener mode)) over same inde
 first old mid new s at place place' c m (Ok Ends) over same index does =
     (does.0, over (put (changed m.changes) (Ok (last_rest at))) ∙ does.1 ∙ ap (λ w. Ok w) same, does.2, does.3)
 first old mid new s at place place' c m (Err fault) over same index does = does
-
--- past quotes all is as past braces, and past `{*}` as between words
-pub past_quotes : (old new : Parts) (s : List ℕ) (at : ℕ) (m : ByteMove) (result : Result Step ParseFault) → DoesMove old new s at PastBraces m result → DoesMove old new s at PastQuotes m result
-past_quotes old new s at m (Ok (On skip next)) does = (does.0, λ r. same r (changed m.changes) ∙ does.1 r, does.2, does.3, does.4)
-  where
-    same : (r : Read) (change : TextRest → TextRest) → joined_parts old s PastQuotes at (put change r) ≡ joined_parts old s PastBraces at (put change r)
-    same (Ok rest) change = refl
-    same (Err fault) change = refl
-past_quotes old new s at m (Ok (Within opener mode)) does = (does.0, λ own mark r. same r (changed m.changes) own ∙ does.1 own mark r, does.2, does.3, does.4)
-  where
-    same : (r : Read) (change : TextRest → TextRest) (own : Piece) → joined_parts old s PastQuotes at (put change (put (piece_before own) r)) ≡ joined_parts old s PastBraces at (put change (put (piece_before own) r))
-    same (Ok rest) change own = refl
-    same (Err fault) change own = refl
-past_quotes old new s at m (Ok Ends) does = does
-past_quotes old new s at m (Err fault) does = does
 
 pub past_expansion : (old new : Parts) (s : List ℕ) (at : ℕ) (m : ByteMove) (result : Result Step ParseFault) → DoesMove old new s at Between m result → DoesMove old new s at Expanded m result
 past_expansion old new s at m (Ok (On skip next)) does = (does.0, λ r. same r (changed m.changes) ∙ does.1 r, does.2, does.3, does.4)
@@ -192,19 +173,6 @@ braces_skip p s depth at b n kind m stands cut small count within own e =
     )
 
 -- ── where words end ──
-
-pub blank_ends : (p : Parts) (s : List ℕ) (at skip : ℕ) (m : ByteMove) → m ≡ on (word_ends at ∷ []) skip Between → IsCharBoundary s (at + 1 + skip) → DoesMove p (with_word p at) s at PastBraces m (Ok (On skip Between))
-blank_ends p s at skip m e cut = rw e (refl, λ r. word_ended p s at at (at + 1 + skip) r, cut, cut.0, refl)
-
-pub line_ends : (p : Parts) (s : List ℕ) (at : ℕ) (m : ByteMove) → m ≡ on (word_ends at ∷ command_ends ∷ []) 0 Start → IsCharBoundary s (at + 1 + 0) → DoesMove p (with_command (with_word p at)) s at PastBraces m (Ok (On 0 Start))
-line_ends p s at m e cut =
-    rw e (
-      refl,
-      λ r. ap (joined_parts p s PastBraces at) (put_first (word_ends at) (command_ends ∷ []) r) ∙ word_ended p s at at at (put (changed (command_ends ∷ [])) r) ∙ command_ended (with_word p at) s at (at + 1 + 0) r,
-      cut,
-      cut.0,
-      refl,
-    )
 
 pub script_ends : (p : Parts) (s : List ℕ) (at : ℕ) (m : ByteMove) → m ≡ ends → IsCharBoundary s at → IsCharBoundary s (at + 1) → DoesMove p (with_command (with_word p at)) s at PastBraces m (Ok Ends)
 script_ends p s at m e cut cut_after = rw e (refl, simp append-nil, cut, cut_after)
@@ -483,21 +451,6 @@ command_finish p s at = simp append-nil
 pub word_finish : (p : Parts) (s : List ℕ) (at : ℕ) → joined_parts p s PastBraces at (Ok (last_rest at)) ≡ Ok (script_whole (with_command (with_word p at)).commands at)
 word_finish p s at = simp append-nil
 
-pub bare_finish : (p : Parts) (s : List ℕ) (at : ℕ) → joined_parts p s (Text Bare) at (Ok (last_rest at)) ≡ Ok (script_whole (with_command (with_word (with_literal p s at) at)).commands at)
-bare_finish p s at = bare_ended p s at at (Ok (last_rest at)) ∙ word_finish (with_literal p s at) s at
-
-pub lone_finish : (p : Parts) (s : List ℕ) (at : ℕ) → IsExpansion s at →
-    joined_parts p s Expanded at (put (changed (lone at)) (Ok (last_rest at)))
-    ≡ Ok (script_whole (with_command (with_word (with_braced (record p { word_start = at - 3; form = BracedForm; expand = false; pieces = []; literal = []; mark = at - 2 }) s (at - 1)) at)).commands at)
-lone_finish p s at expansion = over ∙ word_finish (with_braced (record p { word_start = at - 3; form = BracedForm; expand = false; pieces = []; literal = []; mark = at - 2 }) s (at - 1)) s at
-  where
-    over : joined_parts p s Expanded at (put (changed (lone at)) (Ok (last_rest at))) ≡ joined_parts (with_braced (record p { word_start = at - 3; form = BracedForm; expand = false; pieces = []; literal = []; mark = at - 2 }) s (at - 1)) s PastBraces at (Ok (last_rest at))
-    over = rw expansion.star refl
-
 pub start_any : (p : Parts) (s : List ℕ) (place : BytePlace) (at : ℕ) → (place ≡ Start) ⊎ (place ≡ Comment) → joined_parts p s place at (read_at_end false place at) ≡ Ok (script_whole p.commands at)
 start_any p s place at (inl e) = rw e (start_finish p s at)
 start_any p s place at (inr e) = rw e (start_finish p s at)
-
-pub past_any : (p : Parts) (s : List ℕ) (place : BytePlace) (at : ℕ) → (place ≡ PastQuotes) ⊎ (place ≡ PastBraces) → joined_parts p s place at (read_at_end false place at) ≡ Ok (script_whole (with_command (with_word p at)).commands at)
-past_any p s place at (inl e) = rw e (word_finish p s at)
-past_any p s place at (inr e) = rw e (word_finish p s at)

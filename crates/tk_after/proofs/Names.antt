@@ -1,19 +1,7 @@
 -- Names of numbers, and the texts of errors.
-use Rattle.std.proofs.Common.{◌≡◌, ℕ, ◌<◌, ◌≤◌, Bool, true, false, leb, ◌&&◌, List, [], ◌∷◌, ◌++◌, length, take, drop, refl, ap, ◌∙◌, sym, arith}
+use Rattle.std.proofs.Common.{◌≡◌, ℕ, Bool, true, false, ◌&&◌, List, [], ◌∷◌, ◌++◌, length, take, drop, refl, ap, ◌∙◌, sym, arith}
 use Rattle.std.proofs.lemmas.Bool.Decides.{nat_tests}
 use Rattle.std.specs.Str.{bytes_eq}
-use Rattle.tcl_text.specs.Answers.{bounded, limit_text}
-
--- a message within the limit, and one past it
-pub bounded_within : (text : List ℕ) → length text ≤ 65536 → bounded text ≡ text
-unfolding bounded
-bounded_within text h = let e : leb (length text) 65536 ≡ true = grind (arith, nat_tests) in rw e
-
-pub bounded_beyond : (text : List ℕ) → 65536 < length text → bounded text ≡ limit_text
-unfolding bounded
-bounded_beyond text h = let e : leb (length text) 65536 ≡ false = grind (arith, nat_tests) in rw e
-
-pub ruleset bounds = (bounded_within, bounded_beyond)
 
 -- two texts are equal where the front of the one is the other's and so is the rest
 pub bytes_eq-append : (front rest text : List ℕ) → bytes_eq (front ++ rest) text ≡ (bytes_eq (take (length front) text) front && bytes_eq rest (drop (length front) text))

@@ -51,6 +51,11 @@ module _ (stored : Stored) (rows : List (Name × Option ℕ)) (counters : List (
   pub there : (id : ℕ) (due : Option ℕ) (o : Option (Option ℕ)) → o ≡ option_map (λ (mark : Mark). mark.due) (numbered mark_number id (marks_of owner rows)) → o ≡ Some due → entry_with id (entries_in owner stored) ≡ None → ⊥
   there id due o is told none = listed_some due (entry_with id (entries_in owner stored)) (due_told id o is ∙ told) none
 
+  -- so what takes out the entry of a listed number takes something out
+  pub takes_some : (id : ℕ) (due : Option ℕ) (o : Option (Option ℕ)) → o ≡ option_map (λ (mark : Mark). mark.due) (numbered mark_number id (marks_of owner rows)) → o ≡ Some due → (taken : Option WaitingScript)
+      → (IsRising number_of (entries_in owner stored) → IsMarked id due (entries_in owner stored) → taken ≡ entry_with id (entries_in owner stored)) → taken ≡ None → ⊥
+  takes_some id due o is told taken takes none = there id due o is told (sym (takes rising_in (marked id due o is told)) ∙ none)
+
   -- the first number that passes
   id_told : (p : Mark → Bool) (o : Option ℕ) → o ≡ option_map mark_number (find p (marks_of owner rows)) → option_map (λ (e : WaitingScript). e.id) (find (λ e. p (mark_of e)) (entries_in owner stored)) ≡ o
   id_told p o is = sym (find_id_marks p (entries_in owner stored)) ∙ ap (λ ms. option_map mark_number (find p ms)) (sym (kept.listed owner)) ∙ sym is

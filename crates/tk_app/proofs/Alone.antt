@@ -19,9 +19,6 @@ flat_above f g m (n ∷ ns) rises same =
 
 module _ {P : Type 0} (next_due : P → Option ℕ) (settled : ℕ → P → P) (weight : P → ℕ)
     (lighter : (p : P) (due : ℕ) → next_due p ≡ Some due → weight (settled due p) < weight p) where
-  abbrev to : ℕ → P → P
-  to last p = brought next_due settled weight last p
-
   abbrev at : ℕ → List P → List P
   at moment parts = stage_at next_due settled moment parts
 
@@ -213,15 +210,15 @@ module _ {P : Type 0} (next_due : P → Option ℕ) (settled : ℕ → P → P) 
         by None from = tt
         by (Some due) from = omega (arith, from)
 
-    to_first : (due : ℕ) (p : P) → IsFrom due (next_due p) → to due p ≡ settled_if_due_at next_due settled due p
+    to_first : (due : ℕ) (p : P) → IsFrom due (next_due p) → brought next_due settled weight due p ≡ settled_if_due_at next_due settled due p
     to_first due p from = by (next_due p) refl from
       where
-        by_test : (d : ℕ) (b : Bool) → next_due p ≡ Some d → nat_eq d due ≡ b → due ≤ d → to due p ≡ (if b then settled due p else p)
+        by_test : (d : ℕ) (b : Bool) → next_due p ≡ Some d → nat_eq d due ≡ b → due ≤ d → brought next_due settled weight due p ≡ (if b then settled due p else p)
         by_test d true next here le =
             brought_step next_due settled weight lighter due due p (next ∙ ap Some (eqb-true d due here)) (omega arith) ∙ brought_past next_due settled weight lighter due (settled due p) (quiet p due)
         by_test d false next other le = brought_past next_due settled weight lighter due p (rw next (omega (arith, le, eqb-false d due other)))
 
-        by : (o : Option ℕ) → next_due p ≡ o → IsFrom due o → to due p ≡ settled_if next_due settled o due p
+        by : (o : Option ℕ) → next_due p ≡ o → IsFrom due o → brought next_due settled weight due p ≡ settled_if next_due settled o due p
         by None next from = brought_past next_due settled weight lighter due p (rw next tt)
         by (Some d) next from = by_test d (nat_eq d due) next refl from
 
@@ -245,7 +242,7 @@ module _ {P : Type 0} (next_due : P → Option ℕ) (settled : ℕ → P → P) 
     taken_later due moment (p ∷ ps) lt =
         let there : P = settled_if_due_at next_due settled due p in
         let here : taken moment there ≡ taken moment p =
-        ap (λ q. steps_left q - steps_left (to moment there)) (before_after due moment p lt)
+        ap (λ q. steps_left q - steps_left (brought next_due settled weight moment there)) (before_after due moment p lt)
         ∙ ap (λ q. steps_left (before next_due settled weight moment p) - steps_left q) (brought_at next_due settled weight lighter moment due p (omega (arith, lt))) in
         ap (λ n. n ∷ map (taken moment) (at due ps)) here ∙ ap (λ ns. taken moment p ∷ ns) (taken_later due moment ps lt)
 

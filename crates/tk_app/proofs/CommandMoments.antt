@@ -1,5 +1,5 @@
 -- No command changes the moment.
-use Rattle.std.proofs.Common.{◌≡◌, ℕ, Bool, true, false, cond, List, [], ◌∷◌, refl}
+use Rattle.std.proofs.Common.{◌≡◌, ℕ, Bool, true, false, List, [], ◌∷◌, refl}
 use Rattle.std.specs.Prelude.{Option, Some, None, Result, Ok, Err, length, codes}
 use Rattle.std.specs.Str.{bytes_eq}
 use Rattle.tcl_vars.specs.Store.{Store}
@@ -10,17 +10,15 @@ use Rattle.tk_generate.specs.declared.generate.Generated.{Generated}
 use Rattle.tk_generate.specs.declared.given.When.{When}
 use Rattle.tk_generate.specs.declared.given.When.TheVariants.{Now, Tail, Head}
 use Rattle.tk_generate.specs.Generate.{generate_words}
-use Rattle.tk_pack_commands.specs.Targets.{begins_path}
 use Rattle.tk_panel.specs.Commands.{put_to, puts_words}
 use Rattle.tk_panel.specs.Panel.{Panel}
 use Rattle.tk_sequences.specs.declared.event.Event.{Event}
 use Rattle.tk_tree.specs.Own.{window_at}
 use Rattle.tk_commands.specs.Binding.{binding_command_done, event_told}
 use Rattle.tk_commands.specs.Class.{ClassDone, class_command, class_told, outcome_for}
-use Rattle.tk_commands.specs.Commands.{command_done, command_named, done_by, panel_command}
+use Rattle.tk_commands.specs.Commands.{panel_command}
 use Rattle.tk_commands.specs.declared.binding.BindingCommand.{BindingCommand}
 use Rattle.tk_commands.specs.declared.binding.BindingCommand.TheVariants as binding
-use Rattle.tk_commands.specs.declared.commands.TkCommand.{TkCommand}
 use Rattle.tk_commands.specs.declared.commands.TkCommand.TheVariants as command
 use Rattle.tk_commands.specs.declared.moment.MomentCommand.{MomentCommand}
 use Rattle.tk_commands.specs.declared.moment.MomentCommand.TheVariants as moment_command
@@ -28,8 +26,8 @@ use Rattle.tk_commands.specs.declared.screen.ScreenCommand.{ScreenCommand}
 use Rattle.tk_commands.specs.declared.screen.ScreenCommand.TheVariants.{Window as OnWindow, Pack}
 use Rattle.tk_commands.specs.Dispatch.{dispatched_if, generate_told, generated_by_when, generated_told, selection_of, selection_told}
 use Rattle.tk_commands.specs.Moment.{moment_command_done}
-use Rattle.tk_commands.specs.Path.{path_told}
 use Rattle.tk_commands.specs.Screen.{screen_command_done}
+use Rattle.tk_app.proofs.Families.{command_keeps}
 
 abbrev Stays : Panel → Panel → Type 0
 Stays old new = new.moment ≡ old.moment
@@ -105,21 +103,5 @@ class_stays command words panel store = (let there : ClassDone = class_command c
     by (class.Acts act) panel = refl
     by (class.Selects number) panel = selection_stays number panel
 
-command_stays : (named : TkCommand) (words : List (List ℕ)) (panel : Panel) (store : Store) → Stays panel (command_done named words panel store).panel
-unfolding command_done
-command_stays (command.Moment named) words panel store = moment_stays named words panel
-command_stays (command.Binding named) words panel store = binding_stays named words panel
-command_stays (command.Screen named) words panel store = screen_stays named words panel store
-command_stays (command.Class named) words panel store = class_stays named words panel store
-
-done_stays : (named : Option TkCommand) (words : List (List ℕ)) (panel : Panel) (store : Store) → Stays panel (done_by named words panel store).panel
-done_stays None words panel store = refl
-done_stays (Some named) words panel store = command_stays named words panel store
-
 pub command_moment : (words : List (List ℕ)) (panel : Panel) (store : Store) → (panel_command words panel store).panel.moment ≡ panel.moment
-command_moment [] panel store = refl
-command_moment (name ∷ words) panel store = by (begins_path name)
-  where
-    by : (b : Bool) → Stays panel (cond b (path_told name words panel store) (done_by (command_named name) words panel store)).panel
-    by true = refl
-    by false = done_stays (command_named name) words panel store
+command_moment = command_keeps Stays (λ panel. refl) moment_stays binding_stays screen_stays class_stays (λ name words panel store. refl)

@@ -39,7 +39,6 @@ use Rattle.tk_widgets.specs.declared.choice.Choice.{Choice}
 use Rattle.tk_options.specs.declared.settings.Setting.{Setting}
 use Rattle.tk_options.specs.Options.{settings}
 use Rattle.tk_options.specs.Rows.{options_of}
-use Rattle.tk_pack_commands.specs.Targets.{begins_path}
 use Rattle.tk_panel.specs.Commands.{put_to, puts_words}
 use Rattle.tk_panel.specs.Panel.{Panel}
 use Rattle.tk_screen.specs.Changes.{changed, changed_after, wrote}
@@ -73,10 +72,9 @@ use Rattle.tk_window_commands.specs.Wm.{is_main, title_set, title_words, wm_word
 use Rattle.tk_commands.specs.Binding.{binding_command_done, event_told}
 use Rattle.tk_panel.specs.Deliver.{arrivals_in}
 use Rattle.tk_commands.specs.Class.{ClassDone, class_command, class_told, outcome_for}
-use Rattle.tk_commands.specs.Commands.{command_done, command_named, done_by, panel_command}
+use Rattle.tk_commands.specs.Commands.{panel_command}
 use Rattle.tk_commands.specs.declared.binding.BindingCommand.{BindingCommand}
 use Rattle.tk_commands.specs.declared.binding.BindingCommand.TheVariants as binding
-use Rattle.tk_commands.specs.declared.commands.TkCommand.{TkCommand}
 use Rattle.tk_commands.specs.declared.commands.TkCommand.TheVariants as command
 use Rattle.tk_commands.specs.declared.moment.MomentCommand.{MomentCommand}
 use Rattle.tk_commands.specs.declared.moment.MomentCommand.TheVariants as moment_command
@@ -84,8 +82,8 @@ use Rattle.tk_commands.specs.declared.screen.ScreenCommand.{ScreenCommand}
 use Rattle.tk_commands.specs.declared.screen.ScreenCommand.TheVariants.{Window as OnWindow, Pack}
 use Rattle.tk_commands.specs.Dispatch.{generated_by_when, dispatched_if, generate_told, generated_told, selection_of, selection_told}
 use Rattle.tk_commands.specs.Moment.{moment_command_done}
-use Rattle.tk_commands.specs.Path.{path_told}
 use Rattle.tk_commands.specs.Screen.{screen_command_done}
+use Rattle.tk_app.proofs.Families.{command_keeps}
 use Rattle.tk_app.proofs.Trees.{Acts, HoldsOnScene, Scene, by_screen, scene_of}
 
 -- ── what leaves the windows, and what is packed ──
@@ -380,21 +378,7 @@ module _ (Q : Scene → Scene → Type 0) (acts : HoldsOnScene Q) where
 
   -- ── all commands ──
 
-  command_does : (named : TkCommand) (words : List (List ℕ)) (panel : Panel) (store : Store) → Does panel (command_done named words panel store).panel
-  unfolding command_done
-  command_does (command.Moment named) words panel store = moment_does named words panel
-  command_does (command.Binding named) words panel store = binding_does named words panel
-  command_does (command.Screen named) words panel store = screen_does named words panel store
-  command_does (command.Class named) words panel store = class_does named words panel store
-
-  done_does : (named : Option TkCommand) (words : List (List ℕ)) (panel : Panel) (store : Store) → Does panel (done_by named words panel store).panel
-  done_does None words panel store = acts.same (scene_of panel.windowing)
-  done_does (Some named) words panel store = command_does named words panel store
-
   pub command_acts : (words : List (List ℕ)) (panel : Panel) (store : Store) → Does panel (panel_command words panel store).panel
-  command_acts [] panel store = acts.same (scene_of panel.windowing)
-  command_acts (name ∷ words) panel store = by (begins_path name)
-    where
-      by : (b : Bool) → Does panel (cond b (path_told name words panel store) (done_by (command_named name) words panel store)).panel
-      by true = same_scene (scene_of panel.windowing) (scene_of (path_words name words panel.windowing store).own) (path_scene name words panel.windowing store)
-      by false = done_does (command_named name) words panel store
+  command_acts =
+      command_keeps Does (λ panel. acts.same (scene_of panel.windowing)) moment_does binding_does screen_does class_does
+      (λ name words panel store. same_scene (scene_of panel.windowing) (scene_of (path_words name words panel.windowing store).own) (path_scene name words panel.windowing store))

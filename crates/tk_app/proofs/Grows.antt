@@ -8,14 +8,13 @@ use Rattle.std.proofs.lemmas.List.Folds.{find-append}
 use Rattle.tk_base.specs.Numbered.{numbered}
 use Rattle.tk_base.specs.declared.kind.Kind.{Kind}
 use Rattle.tk_tree.specs.Create.{below_refusal, child_refusal, parent_number, place_refusal, refusal, taken_refusal, with_window}
-use Rattle.tk_tree.specs.declared.fault.WindowFault.{WindowFault}
 use Rattle.tk_tree.specs.declared.fault.WindowFault.TheVariants.{BadName, Dying}
 use Rattle.tk_tree.specs.declared.window.Window.{Window}
 use Rattle.tk_tree.specs.Own.{IsSound, Tree, at_path, window_at, with_change, without_window}
 use Rattle.tk_tree.specs.Path.{begins_upper, parent_and_name}
 use Rattle.tk_tree.specs.Window.{new_window, number_of}
 use Rattle.tk_tree.proofs.Lists.{find_below, find_numbered, find_passes, some_same}
-use Rattle.tk_app.proofs.Sound.{at, others, same_number, same_parent, sound_acts}
+use Rattle.tk_app.proofs.Sound.{at, neither, others, passes_last, same_number, same_parent, sound_acts}
 use Rattle.tk_app.proofs.Trees.{HoldsOfActs, HoldsOnScene, KeepsPlace, OnTrees, on_trees}
 
 -- the window that it was
@@ -183,17 +182,8 @@ module _ (path : List ℕ) (kind : Kind) (tree : Tree) (sound : IsSound tree) (n
       by None none = inr (last (tree.next_number == n) (sym (find-append (λ w. w.number == n) tree.windows (fresh ∷ []) ∙ ap (λ (o : Option Window). option_or o (cond (tree.next_number == n) (Some fresh) None)) none) ∙ is))
       by (Some window) some = inl (some ∙ (sym (find-append (λ w. w.number == n) tree.windows (fresh ∷ []) ∙ ap (λ (o : Option Window). option_or o (cond (tree.next_number == n) (Some fresh) None)) some) ∙ is))
 
-  no_place : (one other : Option WindowFault) → option_or one other ≡ None → one ≡ None
-  no_place None other is = refl
-  no_place (Some fault) other is = absurd (cc)
-
-  alive : (upper dead : Bool) → cond upper (Some BadName) (cond dead (Some Dying) None) ≡ None → dead ≡ false
-  alive true dead is = absurd (cc)
-  alive false true is = absurd (cc)
-  alive false false is = refl
-
   place : below_refusal tree (parent_and_name path) ≡ None
-  place = rw named at (no_place (place_refusal path tree) (taken_refusal path tree) may)
+  place = rw named at (neither (place_refusal path tree) (taken_refusal path tree) may).0
 
   parent_lives : (parent : ℕ) → parent_number path tree ≡ Some parent → LivesIn parent tree
   parent_lives parent its = by (parent_and_name path) place its
@@ -205,7 +195,7 @@ module _ (path : List ℕ) (kind : Kind) (tree : Tree) (sound : IsSound tree) (n
           record {
             window = window;
             there = ap (λ k. window_at k tree) (sym number) ∙ find_numbered number_of (λ w. bytes_eq parts.0 w.path) window tree.windows sound.rising is;
-            lives = alive (begins_upper parts.1) window.dying refused;
+            lives = passes_last (begins_upper parts.1) window.dying BadName Dying refused;
           }
 
       by : (names : Option (List ℕ × List ℕ)) → below_refusal tree names ≡ None → option_map (λ (w : Window). w.number) (option_and_then (λ (parts : List ℕ × List ℕ). at_path parts.0 tree) names) ≡ Some parent → LivesIn parent tree

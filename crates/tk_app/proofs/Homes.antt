@@ -3,31 +3,26 @@ use Rattle.std.proofs.Common.{◌≡◌, ℕ, Bool, true, false, cond, List, [],
 use Rattle.std.specs.Prelude.{Option, Some, None}
 use Rattle.tcl_vars.specs.Store.{Store}
 use Rattle.tcl_control.specs.declared.code.Code.{Code}
-use Rattle.tcl_control.specs.declared.code.Code.TheVariants.{Normal, Error, Return, Break, Continue}
 use Rattle.tcl_interp.specs.Evaluation.{State, Ended}
 use Rattle.tcl_interp.specs.declared.job.Looked.{Looked}
 use Rattle.tcl_interp.specs.declared.job.Looked.TheVariants.{Wants, Ends}
 use Rattle.tcl_interp.specs.JobLaws.{Keeps, runs}
 use Rattle.tcl_interp.specs.Meaning.{looked}
 use Rattle.tcl_interp.proofs.Unrolled as jobs
-use Rattle.tk_after.specs.declared.waiting.WaitingScript.{WaitingScript}
-use Rattle.tk_after.specs.Timers.{first_due, idle_ids}
-use Rattle.tk_panel.specs.declared.job.Home.{Home}
-use Rattle.tk_panel.specs.declared.job.Home.TheVariants.{Settle, Update, IdleTasks, LastLayout}
+use Rattle.tk_after.specs.Timers.{idle_ids}
+use Rattle.tk_panel.specs.declared.job.Home.TheVariants.{Settle}
 use Rattle.tk_panel.specs.declared.job.Job.{Job}
-use Rattle.tk_panel.specs.declared.job.Rest.{Rest}
-use Rattle.tk_panel.specs.declared.job.Rest.TheVariants.{Ends as NoRest, Destroys, Rounds}
+use Rattle.tk_panel.specs.declared.job.Rest.TheVariants.{Rounds}
 use Rattle.tk_panel.specs.Changes.{laid_out}
-use Rattle.tk_panel.specs.Next.{next, next_event, next_rest}
+use Rattle.tk_panel.specs.Next.{next}
 use Rattle.tk_panel.specs.Panel.{Panel}
-use Rattle.tk_panel.specs.Settle.{Next, after_layout, after_round, at_home, drained, idle_round, is_closed, is_due, on_event, on_round, on_timer, queue_or_round, still_waiting, turn}
-use Rattle.tk_panel.specs.Start.{start_event, start_rest, timer_taken}
+use Rattle.tk_panel.specs.Settle.{Next, after_layout, after_round, at_home, drained, idle_round, is_closed, is_due, on_event, on_round, on_timer, queue_or_round, turn}
 use Rattle.tk_commands.specs.Calls.{calls as panel_calls}
-use Rattle.tk_commands.specs.Course.{bound_ended, course as panel_course, ended_by, look, looked_of}
+use Rattle.tk_commands.specs.Course.{course as panel_course, look, looked_of}
 use Rattle.tk_commands.specs.Laws.{meaning as panel_meaning}
-use Rattle.tk_commands.specs.Rests.{has_settled, home_settles, rest_settles, settles_last}
+use Rattle.tk_commands.specs.Rests.{has_settled, settles_last}
 use Rattle.tk_commands.proofs.Drained.{drained_leaves, layout_leaves}
-use Rattle.tk_commands.proofs.Settled.{rests}
+use Rattle.tk_commands.proofs.Settled.{event_starts, next_so, rests, script_ends}
 use Rattle.tk_app.specs.Outside.{course}
 
 -- ── what comes next of a job that settles ──
@@ -84,54 +79,16 @@ by_left : (store : Store) (left : List ℕ) (panel : Panel) → Comes panel (aft
 by_left store [] panel = by_home store panel
 by_left store (id ∷ ids) panel = (refl, refl)
 
-by_rest : (rest : Rest) (store : Store) (panel : Panel) → rest_settles rest ≡ true → Comes panel (next_rest rest store panel)
-by_rest NoRest store panel is = cc
-by_rest (Destroys window doomed paths) store panel is = cc
-by_rest (Rounds ids Settle) store panel is = by_left store (still_waiting ids panel.timers.entries) panel
-by_rest (Rounds ids Update) store panel is = cc
-by_rest (Rounds ids IdleTasks) store panel is = cc
-by_rest (Rounds ids LastLayout) store panel is = cc
-
-by_job : (event : Option (List (List ℕ))) (rest : Rest) (store : Store) (panel : Panel) → rest_settles rest ≡ true → Comes panel (next_event event rest store panel)
-by_job (Some (script ∷ scripts)) rest store panel is = (refl, is)
-by_job (Some []) rest store panel is = by_rest rest store panel is
-by_job None rest store panel is = by_rest rest store panel is
+by_job : (job : Job) (store : Store) (panel : Panel) → settles_last job ≡ true → Comes panel (next job store panel)
+by_job job store panel is = next_so (λ store panel there. Comes panel there) by_left (λ store panel job is. (refl, is)) job store panel is
 
 wanted : (found : Option Job) (job : Job) → OnKind found → looked_of found ≡ Wants job → settles_last job ≡ true
 wanted None job on is = cc
 wanted (Some next) job on is = let same : next ≡ job = cc in ap settles_last (sym same) ∙ on
 
--- ── what it starts, and what the end of a script makes of it ──
-
-timer_starts : (home : Home) (panel : Panel) (entry : Option WaitingScript) → home_settles home ≡ true → settles_last (timer_taken (Rounds [] home) panel entry).1.1 ≡ true
-timer_starts home panel (Some entry) is = is
-timer_starts home panel None is = is
-
-rest_starts : (rest : Rest) (panel : Panel) → rest_settles rest ≡ true → settles_last (start_rest rest panel).1.1 ≡ true
-rest_starts NoRest panel is = is
-rest_starts (Destroys window doomed paths) panel is = is
-rest_starts (Rounds [] home) panel is = timer_starts home panel (first_due panel.moment panel.timers.entries) is
-rest_starts (Rounds (id ∷ ids) home) panel is = is
-
-event_starts : (event : Option (List (List ℕ))) (rest : Rest) (panel : Panel) → rest_settles rest ≡ true → settles_last (start_event event rest panel).1.1 ≡ true
-event_starts (Some (script ∷ scripts)) rest panel is = is
-event_starts (Some []) rest panel is = rest_starts rest panel is
-event_starts None rest panel is = rest_starts rest panel is
-
-bound_ends : (code : Code) (text : List ℕ) (scripts : List (List ℕ)) (rest : Rest) (panel : Panel) → rest_settles rest ≡ true → settles_last (bound_ended code text scripts rest panel).1 ≡ true
-bound_ends Normal text scripts rest panel is = is
-bound_ends Error text scripts rest panel is = is
-bound_ends (Return code) text scripts rest panel is = is
-bound_ends Break text scripts rest panel is = is
-bound_ends Continue text scripts rest panel is = is
-
-script_ends : (event : Option (List (List ℕ))) (rest : Rest) (code : Code) (text : List ℕ) (panel : Panel) → rest_settles rest ≡ true → settles_last (ended_by event rest code text panel).1 ≡ true
-script_ends (Some scripts) rest code text panel is = bound_ends code text scripts rest panel is
-script_ends None rest code text panel is = is
-
 pub keeps : Keeps course settles_last
 keeps = record {
-  looks = λ seen store job next_job is found. wanted (next job store seen.panel).1 next_job (by_job job.event job.rest store seen.panel is).1 found;
+  looks = λ seen store job next_job is found. wanted (next job store seen.panel).1 next_job (by_job job store seen.panel is).1 found;
   starts = λ seen store job is. event_starts job.event job.rest seen.panel is;
   ends = λ code text seen job is. script_ends job.event job.rest code text seen.panel is;
 }
@@ -140,7 +97,7 @@ keeps = record {
 
 -- what is looked for leaves the moment
 pub look_stays : (job : Job) (store : Store) (panel : Panel) → settles_last job ≡ true → (look panel store job).0.moment ≡ panel.moment
-look_stays job store panel is = (by_job job.event job.rest store panel is).0
+look_stays job store panel is = (by_job job store panel is).0
 
 -- the last look of a panel left nothing to do
 pub looked_last : (job : Job) (store : Store) (before after : Panel) (code : Code) (text : List ℕ) → settles_last job ≡ true → look before store job ≡ (after, Ends code text) → has_settled after ≡ true

@@ -3,8 +3,6 @@ use Rattle.std.proofs.Common.{◌≡◌, ◌≢◌, ℕ, Bool, true, false, cond
 use Rattle.std.specs.Prelude.{◌==◌, map, option_and_then, slice_get}
 use Rattle.std.proofs.lemmas.Bool.{eqb-false, eqb-true, ne_eqb}
 use Rattle.tcl_vars.specs.Store.{Store}
-use Rattle.tcl_interp.specs.Evaluation.{State, Outcome, Ended, OutOfSteps}
-use Rattle.tcl_interp.proofs.Kept.{Kept}
 use Rattle.tk_base.specs.Numbered.{numbered}
 use Rattle.tk_packer.specs.declared.packed.Packed.{Packed}
 use Rattle.tk_packer.specs.declared.shape.Shape.{Shape}
@@ -19,27 +17,20 @@ use Rattle.tk_tree.specs.declared.window.Window.{Window}
 use Rattle.tk_tree.specs.Own.{Tree, with_change, without_window}
 use Rattle.tk_tree.specs.Window.{new_window, number_of}
 use Rattle.tk_tree.proofs.Lists.{some_same}
-use Rattle.tk_panel.specs.declared.job.Job.{Job}
 use Rattle.tk_panel.specs.Fresh.{fresh as fresh_panel}
-use Rattle.tk_app.specs.Commands.{scripts_in}
-use Rattle.tk_app.specs.Dispatch.{global_meaning}
 use Rattle.tk_app.specs.InOrder.{AreInOrder, ArePackedInParents, IsInOrder, ItemsKeepOrder, LiesInOrder, ScriptsKeepOrder, StaysInOrder, parent_of}
-use Rattle.tk_app.specs.Jobs.{meaning}
-use Rattle.tk_app.specs.Outside.{run_in}
 use Rattle.tk_app.specs.Places.{StandInOrder}
-use Rattle.tk_app.specs.Seen.{Meaning, Seen}
+use Rattle.tk_app.specs.Seen.{Meaning}
 use Rattle.tk_app.specs.SettleJob.{update_meaning}
-use Rattle.tk_app.specs.Sound.{EndsWith}
 use Rattle.tk_app.proofs.ByEquations.{updates}
-use Rattle.tk_app.proofs.ByUpdate.{global_same, scripts_same}
-use Rattle.tk_app.proofs.Items.{item_so}
+use Rattle.tk_app.proofs.Items.{items_keep, scripts_keep}
 use Rattle.tk_app.proofs.Packed.{pack_fine, pack_place, slave_parent, times_filter}
 use Rattle.tk_app.proofs.Places.{lies_by_masters}
 use Rattle.tk_app.proofs.PreOrder.{parent_in, place_behind, shape_place, shapes_behind}
-use Rattle.tk_app.proofs.Sound.{Since, at, global_since, job_since, others, same_number, same_parent, sound_acts}
+use Rattle.tk_app.proofs.Sound.{at, jobs_so, others, same_number, same_parent, sound_acts}
 use Rattle.tk_app.proofs.SoundBySettle.{stays_by}
 use Rattle.tk_app.proofs.SoundParts.{first_sound, stays_so, takes_any}
-use Rattle.tk_app.proofs.Trees.{HoldsOnScene, KeepsPlace, Scene, laid, placing_keeps, scene_of}
+use Rattle.tk_app.proofs.Trees.{HoldsOnScene, KeepsPlace, Scene, placing_keeps}
 
 -- ── parents, as windows change ──
 
@@ -139,28 +130,11 @@ order_acts = record {
 
 -- ── whatever an application does ──
 
-ends_ordered : (first : Scene) (outcome : Outcome Seen) → Ordered first → Kept (Since StaysOrdered order_acts first) outcome → EndsWith AreInOrder outcome
-ends_ordered first (Ended state code text) held kept = kept held
-ends_ordered first (OutOfSteps state) held kept = tt
-
-scripts_ordered : (room : ℕ) (state : State Seen) → AreInOrder state.shows.panel.windowing → (script : List ℕ) → EndsWith AreInOrder (global_meaning (run_in room) script state)
-scripts_ordered room state held script =
-    let first : Scene = scene_of state.shows.panel.windowing in
-    ends_ordered first (global_meaning (run_in room) script state) held (global_since StaysOrdered order_acts first room script state (λ same. same))
-
-jobs_ordered : (room : ℕ) (state : State Seen) → AreInOrder state.shows.panel.windowing → (job : Job) → EndsWith AreInOrder (meaning room job state)
-jobs_ordered room state held job =
-    let first : Scene = scene_of state.shows.panel.windowing in
-    ends_ordered first (meaning room job state) held (job_since StaysOrdered order_acts first room job state (λ same. same))
-
 pub scripts_keep_order : ScriptsKeepOrder
-scripts_keep_order update meets room script state held =
-    subst (EndsWith AreInOrder) (global_same room (scripts_in update room) (scripts_same update meets room) script state held.sound) (scripts_ordered room state held script)
+scripts_keep_order = scripts_keep Ordered order_acts (λ scene held. held.sound)
 
 pub items_keep_order : ItemsKeepOrder
-items_keep_order update meets room state item held is =
-    item_so AreInOrder (scripts_in update room) (λ script state held. scripts_keep_order update meets room script state held)
-    (λ store panel held. laid StaysOrdered order_acts store panel held) state item held is
+items_keep_order = items_keep Ordered order_acts (λ scene held. held.sound)
 
 first_ordered : (name : List ℕ) (size : ℕ × ℕ) → AreInOrder (fresh_panel name size 0).windowing
 unfolding fresh_panel
@@ -169,7 +143,7 @@ first_ordered name size = record { sound = first_sound name size; parents = tt; 
 pub stays_in_order : {M : Type 0} (answer : M → Meaning) → StaysInOrder answer
 stays_in_order answer =
     stays_by answer AreInOrder (λ own held. held.sound)
-    (stays_so Ordered (record { script = λ state held script. scripts_keep_order update_meaning updates 200 script state held; job = jobs_ordered 200 }) first_ordered
+    (stays_so Ordered (record { script = λ state held script. scripts_keep_order update_meaning updates 200 script state held; job = jobs_so Ordered order_acts 200 }) first_ordered
     (takes_any Ordered (λ size own held. held)) answer)
 
 -- ── where windows lie ──

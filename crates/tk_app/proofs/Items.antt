@@ -13,22 +13,23 @@ use Rattle.tk_sequences.specs.declared.event.Event.{Event}
 use Rattle.tk_screen.specs.Layout.{changes_due}
 use Rattle.tk_screen.specs.Own.{Windowing}
 use Rattle.tk_tree.specs.declared.window.Window.{Window}
-use Rattle.tk_tree.specs.Own.{window_at}
+use Rattle.tk_tree.specs.Own.{IsSound, window_at}
 use Rattle.tk_panel.specs.Changes.{laid_out}
 use Rattle.tk_panel.specs.Choice.{chosen}
 use Rattle.tk_panel.specs.Panel.{Panel, with_queue}
 use Rattle.tk_panel.specs.Removal.{destroy_event, removed}
 use Rattle.tk_commands.specs.Ends.{with_end}
-use Rattle.tk_app.specs.Commands.{scripts_in}
+use Rattle.tk_app.specs.Commands.{Update, scripts_in}
 use Rattle.tk_app.specs.Destroy.{destroy_dispatched, windows_destroyed}
 use Rattle.tk_app.specs.Dispatch.{Action, RunsScripts, after_bound, bound_meaning, dispatch_meaning, ends_there, global_meaning, with_whole_panel}
 use Rattle.tk_app.specs.Items.{event_item, first_item, idle_meaning, layout_item, round_item, round_meaning, timer_item, waiting_meaning, waiting_taken}
 use Rattle.tk_app.specs.Seen.{Seen}
-use Rattle.tk_app.specs.Sound.{AreSound, EndsWith, ItemsKeepSound}
-use Rattle.tk_app.proofs.ByUpdate.{scripts_keep_sound}
+use Rattle.tk_app.specs.Settle.{IsUpdate}
+use Rattle.tk_app.specs.Sound.{EndsWith, ItemsKeepSound}
+use Rattle.tk_app.proofs.ByUpdate.{global_same, scripts_same}
 use Rattle.tk_app.proofs.Panels.{chosen_screen}
-use Rattle.tk_app.proofs.Sound.{StaysSound, sound_on_scene}
-use Rattle.tk_app.proofs.Trees.{OnTrees, end_screen, laid}
+use Rattle.tk_app.proofs.Sound.{OnScreen, scripts_so, sound_on_scene}
+use Rattle.tk_app.proofs.Trees.{HoldsOnScene, Scene, end_screen, laid, scene_of}
 
 module _ (holds : Windowing → Type 0) (run : RunsScripts)
     (runs : (script : List ℕ) (state : State Seen) → holds state.shows.panel.windowing → EndsWith holds (global_meaning run script state)) where
@@ -147,7 +148,20 @@ module _ (holds : Windowing → Type 0) (run : RunsScripts)
     pub item_so : (state : State Seen) (item : Outcome Seen) → Holds state → first_item run state ≡ Some item → EndsWith holds item
     item_so state item held is = subst IsSo is (first_so state held)
 
+-- ── what holds of windows, and of what is packed, by whatever meets the equation of `update` ──
+
+module _ (holds : Scene → Type 0) (acts : HoldsOnScene (λ old new. holds old → holds new)) (are_sound : (scene : Scene) → holds scene → IsSound scene.0) where
+  pub scripts_keep : (update : Update) → IsUpdate update → (room : ℕ) (script : List ℕ) (state : State Seen) → OnScreen holds acts state.shows.panel.windowing
+      → EndsWith (OnScreen holds acts) (global_meaning (scripts_in update room) script state)
+  scripts_keep update meets room script state held =
+      subst (EndsWith (OnScreen holds acts))
+      (global_same room (scripts_in update room) (scripts_same update meets room) script state (are_sound (scene_of state.shows.panel.windowing) held)) (scripts_so holds acts room state held script)
+
+  pub items_keep : (update : Update) → IsUpdate update → (room : ℕ) (state : State Seen) (item : Outcome Seen) → OnScreen holds acts state.shows.panel.windowing
+      → first_item (scripts_in update room) state ≡ Some item → EndsWith (OnScreen holds acts) item
+  items_keep update meets room state item held is =
+      item_so (OnScreen holds acts) (scripts_in update room) (λ script state held. scripts_keep update meets room script state held)
+      (λ store panel held. laid (λ old new. holds old → holds new) acts store panel held) state item held is
+
 pub items_keep_sound : ItemsKeepSound
-items_keep_sound update meets room state item sound is =
-    item_so AreSound (scripts_in update room) (λ script state sound. scripts_keep_sound update meets room script state sound)
-    (λ store panel sound. laid (OnTrees StaysSound) sound_on_scene store panel sound) state item sound is
+items_keep_sound = items_keep (λ scene. IsSound scene.0) sound_on_scene (λ scene sound. sound)

@@ -148,14 +148,14 @@ screen_kept Pack words panel store = same store
 
 -- ── what class bindings run ──
 
-edit_kept : (number : ℕ) (key : EntryEdit) (own : Windowing) (store : Store) → Keeps store (edited number key own store).store
+edit_kept : (number : ℕ) (key : EntryEdit) (own : Windowing) (store : Store) → Keeps store (edited number key own store).kept
 edit_kept number key own store = by (widget_at number own.widgets) refl
   where
-    request : (asks : WidgetRequest) → Keeps store (edited_as number own store asks).store
+    request : (asks : WidgetRequest) → Keeps store (edited_as number own store asks).kept
     request (Told act) = same store
     request (Wants change) = changed_kept number change own store
 
-    by : (widget : Option Widget) → widget_at number own.widgets ≡ widget → Keeps store (edited number key own store).store
+    by : (widget : Option Widget) → widget_at number own.widgets ≡ widget → Keeps store (edited number key own store).kept
     by None is = rw is (same store)
     by (Some widget) is = rw is (request (asked_by (edit_asked key (variable_text widget store) widget)))
 

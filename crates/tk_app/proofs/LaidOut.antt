@@ -2,6 +2,7 @@
 use Rattle.std.proofs.Common.{◌≡◌, ℕ, Bool, true, false, cond, List, [], ◌∷◌, Option, Some, None, refl, sym, ap, ◌∙◌, subst}
 use Rattle.std.specs.Prelude.{◌&&◌, not}
 use Rattle.std.specs.Option.{option_or}
+use Rattle.std.proofs.lemmas.Bool.{and_parts, not-true}
 use Rattle.tcl_vars.specs.Store.{Store}
 use Rattle.tcl_control.specs.declared.code.Code.{Code}
 use Rattle.tcl_control.specs.declared.code.Code.TheVariants.{Normal}
@@ -15,16 +16,16 @@ use Rattle.tk_screen.specs.Layout.{changes_due}
 use Rattle.tk_screen.specs.Own.{Windowing}
 use Rattle.tk_app.proofs.Left.{laid_sound}
 use Rattle.tk_tree.specs.Own.{IsSound}
-use Rattle.tk_panel.specs.declared.job.Home.TheVariants.{Settle, Update, IdleTasks, LastLayout}
+use Rattle.tk_panel.specs.declared.job.Home.TheVariants.{Settle}
 use Rattle.tk_panel.specs.declared.job.Job.{Job}
-use Rattle.tk_panel.specs.declared.job.Rest.{Rest}
-use Rattle.tk_panel.specs.declared.job.Rest.TheVariants.{Ends as NoRest, Destroys, Rounds}
+use Rattle.tk_panel.specs.declared.job.Rest.TheVariants.{Rounds}
 use Rattle.tk_panel.specs.Changes.{laid_out}
-use Rattle.tk_panel.specs.Next.{next, next_event, next_rest}
+use Rattle.tk_panel.specs.Next.{next}
 use Rattle.tk_panel.specs.Panel.{Panel}
-use Rattle.tk_panel.specs.Settle.{Next, after_layout, after_round, at_home, drained, idle_round, is_closed, is_due, on_event, on_round, on_timer, queue_or_round, still_waiting, turn}
+use Rattle.tk_panel.specs.Settle.{Next, after_layout, after_round, at_home, drained, idle_round, is_closed, is_due, on_event, on_round, on_timer, queue_or_round, turn}
 use Rattle.tk_commands.specs.Course.{looked_of}
-use Rattle.tk_commands.specs.Rests.{is_empty, rest_settles, settles_last}
+use Rattle.tk_commands.specs.Rests.{is_empty, settles_last}
+use Rattle.tk_commands.proofs.Settled.{next_so}
 use Rattle.tk_app.specs.Commands.{scripts_in}
 use Rattle.tk_app.specs.Outside.{calls, course}
 use Rattle.tk_app.specs.Seen.{Seen}
@@ -89,18 +90,8 @@ by_left : (store : Store) (left : List ℕ) (panel : Panel) → On store (after_
 by_left store [] panel = by_home store panel
 by_left store (id ∷ ids) panel = tt
 
-by_rest : (rest : Rest) (store : Store) (panel : Panel) → rest_settles rest ≡ true → On store (next_rest rest store panel)
-by_rest NoRest store panel is = cc
-by_rest (Destroys window doomed paths) store panel is = cc
-by_rest (Rounds ids Settle) store panel is = by_left store (still_waiting ids panel.timers.entries) panel
-by_rest (Rounds ids Update) store panel is = cc
-by_rest (Rounds ids IdleTasks) store panel is = cc
-by_rest (Rounds ids LastLayout) store panel is = cc
-
-by_job : (event : Option (List (List ℕ))) (rest : Rest) (store : Store) (panel : Panel) → rest_settles rest ≡ true → On store (next_event event rest store panel)
-by_job (Some (script ∷ scripts)) rest store panel is = tt
-by_job (Some []) rest store panel is = by_rest rest store panel is
-by_job None rest store panel is = by_rest rest store panel is
+by_job : (job : Job) (store : Store) (panel : Panel) → settles_last job ≡ true → On store (next job store panel)
+by_job job store panel is = next_so (λ store panel there. On store there) by_left (λ store panel job is. tt) job store panel is
 
 ended_at : (store : Store) (there shows : Panel) (found : Option Job) (code : Code) (text : List ℕ) → OnJob store there found → there.windowing ≡ shows.windowing → looked_of found ≡ Ends code text → IsLaidOut store shows
 ended_at store there shows None code text on same is held sound =
@@ -113,7 +104,7 @@ unfolding settle_meaning
 ends_laid_out state after code text is sound held =
     let last : LookedLast course settles_last code text after = ends_looked course calls 200 settles_last keeps settling state after code text refl is in
     let there : Next = next last.last after.store last.before.panel in
-    ended_at after.store there.0 after.shows.panel there.1 code text (by_job last.last.event last.last.rest after.store last.before.panel last.is_kind)
+    ended_at after.store there.0 after.shows.panel there.1 code text (by_job last.last after.store last.before.panel last.is_kind)
     (ap (λ (p : Seen × Looked Job). p.0.panel.windowing) last.found) (ap (λ (p : Seen × Looked Job). p.1) last.found) held sound
 
 -- ── so nothing is left to do ──
@@ -121,18 +112,6 @@ ends_laid_out state after code text is sound held =
 no_more : {X : Type 0} (xs : List X) → is_empty xs ≡ true → xs ≡ []
 no_more [] none = refl
 no_more (x ∷ xs) none = absurd (cc)
-
-one_so : (a b : Bool) → a && b ≡ true → a ≡ true
-one_so true b is = refl
-one_so false b is = absurd (cc)
-
-other_so : (a b : Bool) → a && b ≡ true → b ≡ true
-other_so true b is = is
-other_so false b is = absurd (cc)
-
-not_so : (a : Bool) → not a ≡ true → a ≡ false
-not_so true is = absurd (cc)
-not_so false is = refl
 
 pub settles_twice : SettlesTwice
 settles_twice state after code text is sound = by (is_closed after.shows.panel) refl
@@ -146,15 +125,17 @@ settles_twice state after code text is sound = by (is_closed after.shows.panel) 
         let idle = is_empty (idle_ids panel.timers.entries) in
         let quiet : Quiet (Ended after code text) = subst (λ (o : Outcome Seen). Quiet o) is (quiet_settle state) in
         let left : empty && (early && idle) ≡ true = rw held at quiet in
+        let both = and_parts empty (early && idle) left in
+        let others = and_parts early idle both.1 in
         settles_all after sound
         ∙ rw held refl
         ∙ ap (λ queue. done_and
         (option_or (event_item (scripts_in update_meaning 200) queue after)
         (option_or (timer_item (scripts_in update_meaning 200) (first_due panel.moment panel.timers.entries) after)
         (option_or (layout_item (changes_due panel.windowing after.store) after) (round_item (scripts_in update_meaning 200) (idle_ids panel.timers.entries) after)))) settle_meaning after)
-        (no_more panel.queue (one_so empty (early && idle) left))
+        (no_more panel.queue both.0)
         ∙ ap (λ first. done_and
         (option_or (timer_item (scripts_in update_meaning 200) first after) (option_or (layout_item (changes_due panel.windowing after.store) after) (round_item (scripts_in update_meaning 200) (idle_ids panel.timers.entries) after))) settle_meaning after)
-        (none_due panel.moment panel.timers.entries (not_so (is_due panel.moment panel.timers.entries) (one_so early idle (other_so empty (early && idle) left))))
+        (none_due panel.moment panel.timers.entries (not-true (is_due panel.moment panel.timers.entries) others.0))
         ∙ ap (λ changes. done_and (option_or (layout_item changes after) (round_item (scripts_in update_meaning 200) (idle_ids panel.timers.entries) after)) settle_meaning after) (ends_laid_out state after code text is sound held)
-        ∙ ap (λ ids. done_and (round_item (scripts_in update_meaning 200) ids after) settle_meaning after) (no_more (idle_ids panel.timers.entries) (other_so early idle (other_so empty (early && idle) left)))
+        ∙ ap (λ ids. done_and (round_item (scripts_in update_meaning 200) ids after) settle_meaning after) (no_more (idle_ids panel.timers.entries) others.1)

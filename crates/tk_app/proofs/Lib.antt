@@ -12,6 +12,7 @@ mod CommandTrees
 mod Commands
 mod Equations
 mod Events
+mod Families
 mod Gone
 mod Grows
 mod Homes

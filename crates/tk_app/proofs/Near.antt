@@ -1,19 +1,16 @@
 -- The windows of an application lie near one another, whatever it does.
-use Rattle.std.proofs.Common.{◌≡◌, inl, inr, ℕ, ◌+◌, ◌*◌, ◌≤◌, Bool, true, false, cond, List, [], ◌∷◌, ◌++◌, length, not, Option, Some, None, refl, sym, subst, arith}
+use Rattle.std.proofs.Common.{◌≡◌, inl, inr, ℕ, ◌+◌, ◌*◌, ◌≤◌, Bool, true, false, cond, List, [], ◌∷◌, ◌++◌, length, Option, Some, None, refl, sym, subst, arith}
 use Rattle.std.specs.Prelude.{◌==◌, map, reverse, sum_by}
 use Rattle.std.specs.List.{AllByRecursion}
 use Rattle.std.specs.Option.{option_map_or}
 use Rattle.std.proofs.lemmas.List.{length-reverse}
 use Rattle.std.proofs.lemmas.List.Sums.{sum_by-cons}
-use Rattle.tcl_interp.specs.Evaluation.{State, Outcome, Ended, OutOfSteps}
-use Rattle.tcl_interp.proofs.Kept.{Kept}
 use Rattle.tk_base.specs.declared.local_event.LocalEvent.{LocalEvent}
 use Rattle.tk_base.specs.declared.local_event.LocalKind.{LocalKind}
 use Rattle.tk_base.specs.declared.local_event.LocalKind.TheVariants as kinds
 use Rattle.tk_base.specs.declared.rect.Rect.{Rect}
 use Rattle.tk_base.specs.Numbered.{numbered}
 use Rattle.tk_base.specs.Rect.{most_pixels}
-use Rattle.tk_panel.specs.declared.job.Job.{Job}
 use Rattle.tk_panel.specs.Deliver.{with_rectangle}
 use Rattle.tk_panel.specs.Fresh.{fresh as fresh_panel}
 use Rattle.tk_screen.specs.declared.toplevel.Toplevel.{Toplevel}
@@ -28,22 +25,16 @@ use Rattle.tk_tree.specs.Ways.{way_to, way_up}
 use Rattle.tk_tree.specs.Window.{new_window, number_of}
 use Rattle.tk_tree.proofs.Corners.{few_up}
 use Rattle.tk_app.specs.Application.{Application}
-use Rattle.tk_app.specs.Commands.{scripts_in}
-use Rattle.tk_app.specs.Dispatch.{global_meaning}
-use Rattle.tk_app.specs.Jobs.{meaning}
 use Rattle.tk_app.specs.Near.{AreNear, CornersNear, EndsNear, IsNear, ItemsKeepNear, NearStays, RunsNear, ScriptsKeepNear}
-use Rattle.tk_app.specs.Outside.{run_in}
 use Rattle.tk_app.specs.Ranges.{IsEventInRange, IsKindInRange, IsSize}
-use Rattle.tk_app.specs.Seen.{Meaning, Seen}
+use Rattle.tk_app.specs.Seen.{Meaning}
 use Rattle.tk_app.specs.SettleJob.{update_meaning}
-use Rattle.tk_app.specs.Sound.{EndsWith}
 use Rattle.tk_app.proofs.ByEquations.{updates}
 use Rattle.tk_app.proofs.BySettle.{by_settle}
-use Rattle.tk_app.proofs.ByUpdate.{global_same, scripts_same}
-use Rattle.tk_app.proofs.Items.{item_so}
-use Rattle.tk_app.proofs.Sound.{Since, global_since, job_since, others, sound_acts}
+use Rattle.tk_app.proofs.Items.{items_keep, scripts_keep}
+use Rattle.tk_app.proofs.Sound.{each_gone, jobs_so, others, sound_acts}
 use Rattle.tk_app.proofs.SoundParts.{IsKept, TakesSize, delivered_so, first_sound, settled_so, started_so}
-use Rattle.tk_app.proofs.Trees.{HoldsOnScene, KeepsPlace, MayLie, Scene, laid, placing_keeps, scene_of}
+use Rattle.tk_app.proofs.Trees.{HoldsOnScene, KeepsPlace, MayLie, Scene, placing_keeps}
 
 -- ── windows that end near ──
 
@@ -76,12 +67,7 @@ near_changed n change (window ∷ windows) keeps near = (by (window.number == n)
     by false = near.0
 
 near_gone : (n : ℕ) (windows : List Window) → AllNear windows → AllNear (others n windows)
-near_gone n [] near = tt
-near_gone n (window ∷ windows) near = by (window.number == n) (near_gone n windows near.1)
-  where
-    by : (b : Bool) → AllNear (others n windows) → AllNear (cond (not b) (window ∷ others n windows) (others n windows))
-    by true rest = rest
-    by false rest = (near.0, rest)
+near_gone n = each_gone n AllNear EndsNear (λ window windows held. held) (λ window windows one rest. (one, rest))
 
 near_more : (windows : List Window) (new : Window) → AllNear windows → EndsNear new → AllNear (windows ++ new ∷ [])
 near_more [] new near is = (is, tt)
@@ -135,28 +121,11 @@ near_acts = record {
 
 -- ── whatever an application does ──
 
-ends_near : (first : Scene) (outcome : Outcome Seen) → Near first → Kept (Since StaysNear near_acts first) outcome → EndsWith AreNear outcome
-ends_near first (Ended state code text) held kept = kept held
-ends_near first (OutOfSteps state) held kept = tt
-
-scripts_near : (room : ℕ) (state : State Seen) → AreNear state.shows.panel.windowing → (script : List ℕ) → EndsWith AreNear (global_meaning (run_in room) script state)
-scripts_near room state held script =
-    let first : Scene = scene_of state.shows.panel.windowing in
-    ends_near first (global_meaning (run_in room) script state) held (global_since StaysNear near_acts first room script state (λ same. same))
-
-jobs_near : (room : ℕ) (state : State Seen) → AreNear state.shows.panel.windowing → (job : Job) → EndsWith AreNear (meaning room job state)
-jobs_near room state held job =
-    let first : Scene = scene_of state.shows.panel.windowing in
-    ends_near first (meaning room job state) held (job_since StaysNear near_acts first room job state (λ same. same))
-
 pub scripts_keep_near : ScriptsKeepNear
-scripts_keep_near update meets room script state held =
-    subst (EndsWith AreNear) (global_same room (scripts_in update room) (scripts_same update meets room) script state held.sound) (scripts_near room state held script)
+scripts_keep_near = scripts_keep Near near_acts (λ scene held. held.sound)
 
 pub items_keep_near : ItemsKeepNear
-items_keep_near update meets room state item held is =
-    item_so AreNear (scripts_in update room) (λ script state held. scripts_keep_near update meets room script state held)
-    (λ store panel held. laid StaysNear near_acts store panel held) state item held is
+items_keep_near = items_keep Near near_acts (λ scene held. held.sound)
 
 first_near : (name : List ℕ) (size : ℕ × ℕ) → IsSize size.0 size.1 → AreNear (fresh_panel name size 0).windowing
 unfolding fresh_panel
@@ -183,7 +152,7 @@ takes_near event in_range panel held = by event.kind in_range
     by kinds.FocusOut is = held
 
 near_kept : IsKept Near
-near_kept = record { script = λ state held script. scripts_keep_near update_meaning updates 200 script state held; job = jobs_near 200 }
+near_kept = record { script = λ state held script. scripts_keep_near update_meaning updates 200 script state held; job = jobs_so Near near_acts 200 }
 
 pub near_stays : {M : Type 0} (answer : M → Meaning) → NearStays answer
 near_stays {M} answer update is_update settle meets = record {

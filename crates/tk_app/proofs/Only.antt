@@ -75,9 +75,11 @@ module _ (room : ℕ) (run : RunsScripts) (same_run : AgreesRun IsSoundShown (ru
   bound_ends n others more f g rest same left Break text sound few = same left sound few
   bound_ends n others more f g rest same left Continue text sound few = rest left sound few
 
-  bound_step : (n : ℕ) (f g : Action) → Agree n f g → (script : List ℕ) (scripts : List (List ℕ)) → Agree n (bound_behind (run_in room) scripts f) (bound_behind run scripts g)
-      → (state : State Seen) → IsSoundIn state → state.steps ≤ suc n → bound_behind (run_in room) (script ∷ scripts) f state ≡ bound_behind run (script ∷ scripts) g state
-  bound_step n f g same script scripts rest state sound few =
+  -- the first of the scripts takes a step, and the others are run with what it leaves
+  bound_after : (f g : Action) (script : List ℕ) (scripts : List (List ℕ)) (state : State Seen)
+      → ((steps : ℕ) → state.steps ≡ suc steps → Agree steps f g × Agree steps (bound_behind (run_in room) scripts f) (bound_behind run scripts g))
+      → IsSoundIn state → bound_behind (run_in room) (script ∷ scripts) f state ≡ bound_behind run (script ∷ scripts) g state
+  bound_after f g script scripts state same sound =
       step_then state.steps state
       (λ begun. and_then (global_meaning (run_in room) script begun) (λ left code text. after_bound_behind (run_in room) (bound_behind (run_in room) scripts f) f left (out_of_global code) text))
       (λ begun. and_then (global_meaning run script begun) (λ left code text. after_bound_behind run (bound_behind run scripts g) g left (out_of_global code) text))
@@ -85,11 +87,13 @@ module _ (room : ℕ) (run : RunsScripts) (same_run : AgreesRun IsSoundShown (ru
       (λ left code text. after_bound_behind (run_in room) (bound_behind (run_in room) scripts f) f left (out_of_global code) text)
       (λ left code text. after_bound_behind run (bound_behind run scripts g) g left (out_of_global code) text) sound
       (λ left code text kept fewer.
-      bound_ends n (bound_behind (run_in room) scripts f) (bound_behind run scripts g) f g rest same left (out_of_global code) text kept (omega (arith, fewer, is, few))))
+      bound_ends steps (bound_behind (run_in room) scripts f) (bound_behind run scripts g) f g (same steps is).1 (same steps is).0 left (out_of_global code) text kept fewer))
 
   pub bound_same : (n : ℕ) (f g : Action) → Agree n f g → (scripts : List (List ℕ)) → Agree n (bound_behind (run_in room) scripts f) (bound_behind run scripts g)
   bound_same n f g same [] state sound few = same state sound few
-  bound_same n f g same (script ∷ scripts) state sound few = bound_step n f g same script scripts (bound_same n f g same scripts) state sound (omega (arith, few))
+  bound_same n f g same (script ∷ scripts) state sound few =
+      bound_after f g script scripts state
+      (λ steps is. (λ left sound fewer. same left sound (omega (arith, fewer, is, few)), λ left sound fewer. bound_same n f g same scripts left sound (omega (arith, fewer, is, few)))) sound
 
   entry_same : (n : ℕ) (f g : Action) → Agree n f g → (id : ℕ) (script : List ℕ) → Agree n (waiting_behind (run_in room) id script f) (waiting_behind run id script g)
   entry_same n f g same id script state sound few =
@@ -141,14 +145,7 @@ module _ (room : ℕ) (run : RunsScripts) (same_run : AgreesRun IsSoundShown (ru
     bound_less : (script : List ℕ) (scripts : List (List ℕ)) (state : State Seen) → Less f g state → IsSoundIn state
         → bound_behind (run_in room) (script ∷ scripts) f state ≡ bound_behind run (script ∷ scripts) g state
     bound_less script scripts state less sound =
-        step_then state.steps state
-        (λ begun. and_then (global_meaning (run_in room) script begun) (λ left code text. after_bound_behind (run_in room) (bound_behind (run_in room) scripts f) f left (out_of_global code) text))
-        (λ begun. and_then (global_meaning run script begun) (λ left code text. after_bound_behind run (bound_behind run scripts g) g left (out_of_global code) text))
-        (λ steps is. ran_same script (record state { steps = steps })
-        (λ left code text. after_bound_behind (run_in room) (bound_behind (run_in room) scripts f) f left (out_of_global code) text)
-        (λ left code text. after_bound_behind run (bound_behind run scripts g) g left (out_of_global code) text) sound
-        (λ left code text kept fewer.
-        bound_ends steps (bound_behind (run_in room) scripts f) (bound_behind run scripts g) f g (bound_same steps f g (less steps is) scripts) (less steps is) left (out_of_global code) text kept fewer))
+        bound_after f g script scripts state (λ steps is. (less steps is, bound_same steps f g (less steps is) scripts)) sound
 
     idle_less : (ids : List ℕ) (state : State Seen) → idle_ids state.shows.panel.timers.entries ≡ ids → IsSoundIn state → Less f g state → round_or_behind (run_in room) ids f state ≡ round_or_behind run ids g state
     idle_less [] state is sound less = refl

@@ -25,7 +25,7 @@ use Rattle.tk_app.specs.Outside.{outside}
 use Rattle.tk_app.specs.Moments.{after_outcome, granted, state_after, state_in, with_left}
 use Rattle.tk_app.specs.Part.{Part, Work, Rests, Goes, done_as, settling_as, settling_begun, stage_done, work_of}
 use Rattle.tk_app.specs.Seen.{Meaning, Seen, meanings}
-use Rattle.tk_app.specs.Turns.{EndsAs, IsAsFar, Program, TakesTurn, end_as, end_of, part_of, work_by}
+use Rattle.tk_app.specs.Turns.{EndsAs, IsAsFar, Program, TakesTurn, end_as, end_of, part_of, program_with, work_by}
 
 -- what goes on doesn't rest
 goes_work : (rest : RestToDo (Task Job)) (levels : List ℕ) → IsRunning rest → work_of rest levels ≢ Rests
@@ -97,7 +97,7 @@ settling_stops Exhausted work stopped = refl
 settling_stops Closed work stopped = refl
 
 -- what runs and doesn't rest has an interpreter that goes on
-pub going_rest : {M : Type 0} (program : Program M) (state : AppState) (rest : RestToDo (Task Job)) (levels : List ℕ) → state ≡ program.state → work_by state (work_of rest levels) ≡ program.work
+going_rest : {M : Type 0} (program : Program M) (state : AppState) (rest : RestToDo (Task Job)) (levels : List ℕ) → state ≡ program.state → work_by state (work_of rest levels) ≡ program.work
     → program.state ≡ Running → program.work ≢ Rests → IsRunning rest
 going_rest program state rest levels same work runs goes =
     rest_goes rest levels (λ rests. goes (sym work ∙ ap (λ s. work_by s (work_of rest levels)) (same ∙ runs) ∙ rests))
@@ -245,20 +245,22 @@ module _ {M : Type 0} (answer : M → Meaning) where
 
   -- a runner, with another interpreter and other variables
   abbrev pub ran : Program M → Interp (Task Job) → Store → AppState → Program M
-  ran program interp store state =
-      record program {
-        store = store;
-        commands = (context_of interp).commands;
-        steps = left_of interp;
-        state = state;
-        work = work_by state (work_of (rest_of interp) (context_of interp).levels);
-      }
+  ran program interp store state = program_with program.name program.aliases program.budget store interp state
 
-  -- a slice of an interpreter, between what its application had in the tables and what it has then
-  module _ (program : Program M) (panel panel' : Panel) (interp interp' : Interp (Task Job)) (store store' : Store) (state : AppState) (runs : state ≡ Running)
-      (moment : panel'.moment ≡ panel.moment) (running : IsRunning (rest_of interp)) where
+  -- a slice of an interpreter, between what its application had in the tables, which goes on, and what it has then
+  module _ (program : Program M) (panel panel' : Panel) (interp interp' : Interp (Task Job)) (store store' : Store) (state : AppState) (now : Program M) (is : ran program interp store state ≡ now)
+      (runs : now.state ≡ Running) (goes : now.work ≢ Rests) (moment : panel'.moment ≡ panel.moment) where
+    own_runs : state ≡ Running
+    own_runs = ap (λ (p : Program M). p.state) is ∙ runs
+
+    running : IsRunning (rest_of interp)
+    running = going_rest now state (rest_of interp) (context_of interp).levels (ap (λ (p : Program M). p.state) is) (ap (λ (p : Program M). p.work) is) runs goes
+
     abbrev before : Part M
     before = part_of panel (ran program interp store state)
+
+    from_now : (steps : ℕ) (end : AppEnd) (after : Part M) → TakesTurn answer panel.moment steps end before after → TakesTurn answer panel.moment steps end (part_of panel now) after
+    from_now steps end after turn = subst (λ (p : Program M). TakesTurn answer panel.moment steps end (part_of panel p) after) is turn
 
     abbrev after_as : AppState → Part M
     after_as state' = part_of panel' (ran program interp' store' state')
@@ -279,29 +281,29 @@ module _ {M : Type 0} (answer : M → Meaning) where
 
     -- what is under way then
     work_then : (after_as state).work ≡ work_of (rest_of interp') (context_of interp').levels
-    work_then = ap (λ s. work_by s (work_of (rest_of interp') (context_of interp').levels)) runs
+    work_then = ap (λ s. work_by s (work_of (rest_of interp') (context_of interp').levels)) own_runs
 
     -- it has ended
     pub turn_settles : (steps : ℕ) (code : Code) (text : List ℕ) → outcome_of ≡ Ended left code text → rest_of interp' ≡ Idle → left_of interp ≤ left_of interp' + steps
-        → TakesTurn answer panel.moment steps (end_as (state_after panel')) before (after_as (state_after panel'))
+        → TakesTurn answer panel.moment steps (end_as (state_after panel')) (part_of panel now) (after_as (state_after panel'))
     turn_settles steps code text ended idle most =
         let state' : AppState = state_after panel' in
-        turn_last panel.moment steps (end_as state') before (after_as state')
-        (all_done panel.moment before.application (rest_of interp) (context_of interp).levels runs running left code text (rest_of interp') (context_of interp').levels ended idle)
-        most (ends_over state') (ends_as state' (after_as state') refl (ap (λ r. work_by state' (work_of r (context_of interp').levels)) idle ∙ ends_rest state'))
+        from_now steps (end_as state') (after_as state') (turn_last panel.moment steps (end_as state') before (after_as state')
+        (all_done panel.moment before.application (rest_of interp) (context_of interp).levels own_runs running left code text (rest_of interp') (context_of interp').levels ended idle)
+        most (ends_over state') (ends_as state' (after_as state') refl (ap (λ r. work_by state' (work_of r (context_of interp').levels)) idle ∙ ends_rest state')))
 
-    pub turn_stops : (steps : ℕ) → outcome_of ≡ OutOfSteps left → left_of interp' ≡ 0 → left_of interp ≤ left_of interp' + steps → TakesTurn answer panel.moment steps Stopped before (after_as Exhausted)
+    pub turn_stops : (steps : ℕ) → outcome_of ≡ OutOfSteps left → left_of interp' ≡ 0 → left_of interp ≤ left_of interp' + steps → TakesTurn answer panel.moment steps Stopped (part_of panel now) (after_as Exhausted)
     turn_stops steps out none most =
-        turn_last panel.moment steps Stopped before (after_as Exhausted)
-        (all_spent panel.moment before.application (rest_of interp) (context_of interp).levels runs running left (rest_of interp') (context_of interp').levels out none)
-        most (λ e. cc) ((λ e. cc), refl)
+        from_now steps Stopped (after_as Exhausted) (turn_last panel.moment steps Stopped before (after_as Exhausted)
+        (all_spent panel.moment before.application (rest_of interp) (context_of interp).levels own_runs running left (rest_of interp') (context_of interp').levels out none)
+        most (λ e. cc) ((λ e. cc), refl))
 
     pub turn_goes_on : (steps : ℕ) → outcome_of ≡ finish outside (rest_of interp') left → IsRunning (rest_of interp') → left_of interp' + steps ≡ left_of interp
-        → TakesTurn answer panel.moment steps More before (after_as state)
+        → TakesTurn answer panel.moment steps More (part_of panel now) (after_as state)
     turn_goes_on steps same running' took =
-        turn_more panel.moment steps before (after_as state)
-        (goes_on panel.moment before.application (rest_of interp) (context_of interp).levels runs running left (rest_of interp') same running' stands)
-        took (runs, λ rests. goes_work (rest_of interp') (context_of interp').levels running' (sym work_then ∙ rests))
+        from_now steps More (after_as state) (turn_more panel.moment steps before (after_as state)
+        (goes_on panel.moment before.application (rest_of interp) (context_of interp).levels own_runs running left (rest_of interp') same running' stands)
+        took (own_runs, λ rests. goes_work (rest_of interp') (context_of interp').levels running' (sym work_then ∙ rests)))
 
   -- its turn is none
   pub stopped_turn : (moment steps : ℕ) (part : Part M) → part.application.state ≢ Running → part.work ≡ Rests → TakesTurn answer moment steps Stopped (settling_begun part) part

@@ -1,5 +1,5 @@
 -- The parts, after a change to what is of one of them.
-use Rattle.std.proofs.Common.{◌≡◌, ◌≢◌, ℕ, zero, suc, ◌+◌, ◌<◌, ◌≤◌, List, [], ◌∷◌, ◌++◌, length, get_or, set, refl, sym, ap, ◌∙◌, arith}
+use Rattle.std.proofs.Common.{◌≡◌, ◌≢◌, ℕ, Bool, zero, suc, ◌+◌, ◌<◌, ◌≤◌, List, [], ◌∷◌, ◌++◌, length, get_or, set, refl, sym, ap, ◌∙◌, arith}
 use Rattle.std.specs.Prelude.{Any, None, Option, Some, option_and_then, option_map, slice_get}
 use Rattle.std.proofs.lemmas.Option.{slice_get_past, slice_get_read}
 use Rattle.tk_panel.specs.declared.tables.Tables.{Tables}
@@ -7,7 +7,8 @@ use Rattle.tk_panel.specs.Shared.{panel_of}
 use Rattle.tk_app.specs.Application.{Application}
 use Rattle.tk_app.specs.Inspection.{seen_in}
 use Rattle.tk_app.specs.Part.{Part}
-use Rattle.tk_app.specs.Turns.{Program, application_of, part_of, parts_from}
+use Rattle.tk_app.specs.declared.turns.Turn.{Turn}
+use Rattle.tk_app.specs.Turns.{Applications, Program, application_of, part_of, parts_from}
 
 pub length-parts_from : {M : Type 0} (n : ℕ) (tables : Tables) (ps : List (Program M)) → length (parts_from n tables ps) ≡ length ps
 unfolding parts_from
@@ -61,24 +62,35 @@ push_parts tables ps p = push_from 0 tables ps p (length ps) (omega arith)
 
 -- ── what is told of a slot ──
 
-pub in_range : {M : Type 0} (tables : Tables) (ps : List (Program M)) (parts : List (Part M)) (i : ℕ) → parts_from 0 tables ps ≡ parts → i < length parts → i < length ps
-in_range tables ps parts i is lt = omega (arith, lt, length-parts_from 0 tables ps, ap (λ qs. length qs) is)
+-- all applications, by what lies in memory
+abbrev pub held_in : {M : Type 0} → Tables → List (Program M) → List Turn → Bool → Applications M
+held_in tables ps turns refused = record { moment = tables.clock; parts = parts_from 0 tables ps; turns = turns; refused = refused }
 
-pub of_slot : {M : Type 0} {T : Type 0} (f : Part M → T) (tables : Tables) (ps : List (Program M)) (parts : List (Part M)) (i : ℕ) (p : Program M) (x : T) → parts_from 0 tables ps ≡ parts → i < length parts → p ≡ get_or ps i p
-    → x ≡ f (part_of (panel_of i tables) p) → option_map f (slice_get parts i) ≡ Some x
-of_slot f tables ps parts i p x is lt at told = ap (option_map f) (get_parts tables ps parts i p is (in_range tables ps parts i is lt) at) ∙ ap Some (sym told)
+module _ {M : Type 0} (tables : Tables) (ps : List (Program M)) {turns : List Turn} {refused : Bool} {held : Applications M} (is : held_in tables ps turns refused ≡ held) where
+  parts_are : parts_from 0 tables ps ≡ held.parts
+  parts_are = ap (λ (h : Applications M). h.parts) is
 
--- ── what is looked at ──
+  pub in_range : {i : ℕ} → i < length held.parts → i < length ps
+  in_range lt = omega (arith, lt, length-parts_from 0 tables ps, ap (λ qs. length qs) parts_are)
 
-module _ {M T : Type 0} (look : Application M → Option T) (tables : Tables) (ps items : List (Program M)) (parts : List (Part M)) (i : ℕ) (is : parts_from 0 tables ps ≡ parts) (same : items ≡ ps) where
-  pub seen_there : (p : Program M) → i < length items → p ≡ get_or items i p → look (application_of (panel_of i tables) p) ≡ seen_in look i parts
-  seen_there p lt at =
-      sym (ap (option_and_then (λ (part : Part M). look part.application)) (get_parts tables ps parts i p is (omega (arith, lt, ap length same)) (at ∙ ap (λ xs. get_or xs i p) same)))
+  pub part_at : {i : ℕ} {p : Program M} → i < length held.parts → p ≡ get_or ps i p → slice_get held.parts i ≡ Some (part_of (panel_of i tables) p)
+  part_at {i} {p} lt at = get_parts tables ps held.parts i p parts_are (in_range lt) at
+
+  pub of_slot : {T : Type 0} (f : Part M → T) {i : ℕ} {p : Program M} {x : T} → i < length held.parts → p ≡ get_or ps i p → x ≡ f (part_of (panel_of i tables) p) → option_map f (slice_get held.parts i) ≡ Some x
+  of_slot f lt at told = ap (option_map f) (part_at lt at) ∙ ap Some (sym told)
+
+  -- ── what is looked at ──
+
+  pub seen_there : {T : Type 0} (look : Application M → Option T) {items : List (Program M)} {i : ℕ} {p : Program M} → items ≡ ps → i < length items → p ≡ get_or items i p
+      → look (application_of (panel_of i tables) p) ≡ seen_in look i held.parts
+  seen_there look {items} {i} {p} same lt at =
+      sym (ap (option_and_then (λ (part : Part M). look part.application)) (get_parts tables ps held.parts i p parts_are (omega (arith, lt, ap length same)) (at ∙ ap (λ xs. get_or xs i p) same)))
 
   -- no application is in the slot
-  pub seen_nowhere : length items ≤ i → None ≡ seen_in look i parts
-  seen_nowhere le =
-      sym (ap (option_and_then (λ (part : Part M). look part.application)) (slice_get_past parts i (omega (arith, le, ap length same, length-parts_from 0 tables ps, ap (λ qs. length qs) is))))
+  pub seen_nowhere : {T : Type 0} (look : Application M → Option T) {items : List (Program M)} {i : ℕ} → items ≡ ps → length items ≤ i → None ≡ seen_in look i held.parts
+  seen_nowhere look {items} {i} same le =
+      sym (ap (option_and_then (λ (part : Part M). look part.application))
+      (slice_get_past held.parts i (omega (arith, le, ap length same, length-parts_from 0 tables ps, ap (λ qs. length qs) parts_are))))
 
 -- ── names ──
 

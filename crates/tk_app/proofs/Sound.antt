@@ -29,6 +29,7 @@ use Rattle.tk_commands.specs.declared.outcome.Begun.TheVariants.{Updates, Update
 use Rattle.tk_commands.specs.declared.outcome.CommandOutcome.{CommandOutcome}
 use Rattle.tk_commands.specs.declared.outcome.CommandOutcome.TheVariants as outcome
 use Rattle.tk_commands.specs.Outcomes.{Done}
+use Rattle.tk_screen.specs.Own.{Windowing}
 use Rattle.tk_tree.specs.Create.{parent_number, place_refusal, refusal, taken_refusal}
 use Rattle.tk_tree.specs.declared.fault.WindowFault.{WindowFault}
 use Rattle.tk_tree.specs.declared.fault.WindowFault.TheVariants.{Exists, Full}
@@ -42,7 +43,7 @@ use Rattle.tk_app.specs.Jobs.{meaning}
 use Rattle.tk_app.specs.Outside.{alias_act, called_as, calls, course, outside, run_in}
 use Rattle.tk_app.specs.Seen.{Seen}
 use Rattle.tk_app.specs.Settle.{IsSoundIn}
-use Rattle.tk_app.specs.Sound.{EndsSound}
+use Rattle.tk_app.specs.Sound.{EndsSound, EndsWith}
 use Rattle.tk_app.proofs.CommandTrees.{command_acts}
 use Rattle.tk_app.proofs.Panels.{chosen_screen}
 use Rattle.tk_app.proofs.Trees.{Acts, HoldsOfActs, HoldsOnScene, KeepsPlace, OnTrees, Scene, both, by_screen, ended_acts, next_acts, on_trees, scene_of, start_acts}
@@ -113,25 +114,45 @@ module _ (Q : Scene → Scene → Type 0) (acts : HoldsOnScene Q) (first : Scene
       subst (Kept Since) ((jobs.goes_on course calls room job state Normal [] []).0 ∙ ap done (job_ends job.event job.rest state.shows))
       (kept_task Since outside keeps (run_in room) (script_since room) (Runs job) state Normal [] since)
 
+-- ── what holds of windows, and of what is packed, where scripts and jobs end ──
+
+module _ (holds : Scene → Type 0) (acts : HoldsOnScene (λ old new. holds old → holds new)) where
+  abbrev pub OnScreen : Windowing → Type 0
+  OnScreen own = holds (scene_of own)
+
+  ends_so : (first : Scene) (outcome : Outcome Seen) → holds first → Kept (Since (λ old new. holds old → holds new) acts first) outcome → EndsWith OnScreen outcome
+  ends_so first (Ended state code text) held kept = kept held
+  ends_so first (OutOfSteps state) held kept = tt
+
+  pub scripts_so : (room : ℕ) (state : State Seen) → OnScreen state.shows.panel.windowing → (script : List ℕ) → EndsWith OnScreen (global_meaning (run_in room) script state)
+  scripts_so room state held script =
+      let first : Scene = scene_of state.shows.panel.windowing in
+      ends_so first (global_meaning (run_in room) script state) held (global_since (λ old new. holds old → holds new) acts first room script state (λ same. same))
+
+  pub jobs_so : (room : ℕ) (state : State Seen) → OnScreen state.shows.panel.windowing → (job : Job) → EndsWith OnScreen (meaning room job state)
+  jobs_so room state held job =
+      let first : Scene = scene_of state.shows.panel.windowing in
+      ends_so first (meaning room job state) held (job_since (λ old new. holds old → holds new) acts first room job state (λ same. same))
+
 -- ── numbers, and older parents ──
 
 module _ (change : Window → Window) (keeps_place : KeepsPlace change) (n : ℕ) where
   abbrev pub at : Window → Window
   at window = cond (window.number == n) (change window) window
 
-  pub same_number : (window : Window) → (at window).number ≡ window.number
-  same_number window = by (window.number == n)
+  -- what a change keeps of a window, it keeps of all
+  same_of : {T : Type 0} (of : Window → T) (window : Window) → of (change window) ≡ of window → of (at window) ≡ of window
+  same_of of window same = by (window.number == n)
     where
-      by : (b : Bool) → (cond b (change window) window).number ≡ window.number
-      by true = keeps_place.number window
+      by : (b : Bool) → of (cond b (change window) window) ≡ of window
+      by true = same
       by false = refl
 
+  pub same_number : (window : Window) → (at window).number ≡ window.number
+  same_number window = same_of (λ (w : Window). w.number) window (keeps_place.number window)
+
   pub same_parent : (window : Window) → (at window).parent ≡ window.parent
-  same_parent window = by (window.number == n)
-    where
-      by : (b : Bool) → (cond b (change window) window).parent ≡ window.parent
-      by true = keeps_place.parent window
-      by false = refl
+  same_parent window = same_of (λ (w : Window). w.parent) window (keeps_place.parent window)
 
   above_changed : (m : ℕ) (windows : List Window) → AllAbove number_of m windows → AllAbove number_of m (map at windows)
   above_changed m [] above = tt
@@ -163,13 +184,18 @@ module _ (n : ℕ) where
   abbrev pub others : List Window → List Window
   others windows = filter (λ (window : Window). not (window.number == n)) windows
 
-  above_gone : (m : ℕ) (windows : List Window) → AllAbove number_of m windows → AllAbove number_of m (others windows)
-  above_gone m [] above = tt
-  above_gone m (window ∷ windows) above = by (window.number == n) (above_gone m windows above.1)
+  -- what holds of each window holds of each that is left
+  pub each_gone : (all : List Window → Type 0) (each : Window → Type 0) → ((window : Window) (windows : List Window) → all (window ∷ windows) → each window × all windows)
+      → ((window : Window) (windows : List Window) → each window → all windows → all (window ∷ windows)) → (windows : List Window) → all windows → all (others windows)
+  each_gone all each parts whole [] held = held
+  each_gone all each parts whole (window ∷ windows) held = by (window.number == n) (each_gone all each parts whole windows (parts window windows held).1)
     where
-      by : (b : Bool) → AllAbove number_of m (others windows) → AllAbove number_of m (cond (not b) (window ∷ others windows) (others windows))
+      by : (b : Bool) → all (others windows) → all (cond (not b) (window ∷ others windows) (others windows))
       by true rest = rest
-      by false rest = (above.0, rest)
+      by false rest = whole window (others windows) (parts window windows held).0 rest
+
+  above_gone : (m : ℕ) (windows : List Window) → AllAbove number_of m windows → AllAbove number_of m (others windows)
+  above_gone m = each_gone (AllAbove number_of m) (λ window. m < window.number) (λ window windows held. held) (λ window windows one rest. (one, rest))
 
   rising_gone : (windows : List Window) → IsRising number_of windows → IsRising number_of (others windows)
   rising_gone [] rising = tt
@@ -180,20 +206,10 @@ module _ (n : ℕ) where
       by false rest = (above_gone window.number windows rising.0, rest)
 
   below_gone : (m : ℕ) (windows : List Window) → AllBelow number_of m windows → AllBelow number_of m (others windows)
-  below_gone m [] below = tt
-  below_gone m (window ∷ windows) below = by (window.number == n) (below_gone m windows below.1)
-    where
-      by : (b : Bool) → AllBelow number_of m (others windows) → AllBelow number_of m (cond (not b) (window ∷ others windows) (others windows))
-      by true rest = rest
-      by false rest = (below.0, rest)
+  below_gone m = each_gone (AllBelow number_of m) (λ window. window.number < m) (λ window windows held. held) (λ window windows one rest. (one, rest))
 
   parents_gone : (windows : List Window) → HaveOlderParents windows → HaveOlderParents (others windows)
-  parents_gone [] older = tt
-  parents_gone (window ∷ windows) older = by (window.number == n) (parents_gone windows older.1)
-    where
-      by : (b : Bool) → HaveOlderParents (others windows) → HaveOlderParents (cond (not b) (window ∷ others windows) (others windows))
-      by true rest = rest
-      by false rest = (older.0, rest)
+  parents_gone = each_gone HaveOlderParents HasOlderParent (λ window windows held. held) (λ window windows one rest. (one, rest))
 
   length_gone : (windows : List Window) → length (others windows) ≤ length windows
   length_gone [] = omega arith
@@ -221,24 +237,25 @@ module _ (path : List ℕ) (tree : Tree) (sound : IsSound tree) where
   parent_older : IsOlder (parent_number path tree)
   parent_older = names_older (parent_and_name path)
 
--- there is room for one more where none of the tests refuses
-no_first : (one other : Option WindowFault) → option_or one other ≡ None → other ≡ None
-no_first None other is = is
-no_first (Some fault) other is = absurd (cc)
+-- where neither of two tests refuses, the first doesn't, and nor does the other
+pub neither : (one other : Option WindowFault) → option_or one other ≡ None → (one ≡ None) × (other ≡ None)
+neither None other is = (refl, is)
+neither (Some fault) other is = absurd (cc)
 
-not_full : (taken full : Bool) → cond taken (Some Exists) (cond full (Some Full) None) ≡ None → full ≡ false
-not_full true full is = absurd (cc)
-not_full false true is = absurd (cc)
-not_full false false is = refl
+pub passes_last : (first last : Bool) (one other : WindowFault) → cond first (Some one) (cond last (Some other) None) ≡ None → last ≡ false
+passes_last true last one other is = absurd (cc)
+passes_last false true one other is = absurd (cc)
+passes_last false false one other is = refl
 
 one_false : (a b : Bool) → a || b ≡ false → a ≡ false
 one_false true b is = absurd (cc)
 one_false false b is = refl
 
+-- there is room for one more where none of the tests refuses
 has_room : (path : List ℕ) (tree : Tree) → refusal path tree ≡ None → length tree.windows < 512
 has_room path tree may =
     leb-false 512 (length tree.windows)
-    (one_false (nat_le 512 (length tree.windows)) (tree.next_number == 18446744073709551615) (not_full (is_some (at_path path tree)) (is_full tree) (no_first (place_refusal path tree) (taken_refusal path tree) may)))
+    (one_false (nat_le 512 (length tree.windows)) (tree.next_number == 18446744073709551615) (passes_last (is_some (at_path path tree)) (is_full tree) Exists Full (neither (place_refusal path tree) (taken_refusal path tree) may).1))
 
 -- ── sound stays sound ──
 
@@ -287,16 +304,8 @@ shown_keeps = (
 pub run_keeps : (room : ℕ) → KeepsRun IsSoundShown (run_in room)
 run_keeps room = kept_script IsSoundShown outside shown_keeps room
 
-ends_sound : (first : Scene) (outcome : Outcome Seen) → IsSound first.0 → Kept (Since (OnTrees StaysSound) sound_on_scene first) outcome → EndsSound outcome
-ends_sound first (Ended state code text) sound kept = kept sound
-ends_sound first (OutOfSteps state) sound kept = tt
-
 pub scripts_sound : (room : ℕ) (state : State Seen) → IsSoundIn state → (script : List ℕ) → EndsSound (global_meaning (run_in room) script state)
-scripts_sound room state sound script =
-    let first : Scene = scene_of state.shows.panel.windowing in
-    ends_sound first (global_meaning (run_in room) script state) sound (global_since (OnTrees StaysSound) sound_on_scene first room script state (λ same. same))
+scripts_sound = scripts_so (λ scene. IsSound scene.0) sound_on_scene
 
 pub jobs_sound : (room : ℕ) (state : State Seen) → IsSoundIn state → (job : Job) → EndsSound (meaning room job state)
-jobs_sound room state sound job =
-    let first : Scene = scene_of state.shows.panel.windowing in
-    ends_sound first (meaning room job state) sound (job_since (OnTrees StaysSound) sound_on_scene first room job state (λ same. same))
+jobs_sound = jobs_so (λ scene. IsSound scene.0) sound_on_scene

@@ -62,14 +62,16 @@ above_within slot start slice behind most (need ∷ needs) turns below within =
     (within_less (n + (length needs * slice + most)) all (before_next slot (one_turn start n ++ (rest ++ turns))) (omega arith)
     (other_first slot start n (length needs * slice + most) (rest ++ turns) (λ same. omega (arith, same, below)) (above_within slot (start + 1) slice behind most needs turns (omega (arith, below)) within)))
 
-above_waits : (most slot start slice behind : ℕ) (needs : List ℕ) (turns : List Turn) → slot < start → WaitsAtMost most slot turns
+-- a round of others leaves a slot waiting as long
+others_wait : (most slot start slice behind : ℕ) (needs : List ℕ) (turns : List Turn) → ((other : ℕ) → start ≤ other → other < start + length needs → other ≢ slot) → WaitsAtMost most slot turns
     → WaitsAtMost most slot (round_from start slice behind needs ++ turns)
-above_waits most slot start slice behind [] turns below waits = waits
-above_waits most slot start slice behind (need ∷ needs) turns below waits =
+others_wait most slot start slice behind [] turns differ waits = waits
+others_wait most slot start slice behind (need ∷ needs) turns differ waits =
     let n : ℕ = min slice (need - behind * slice) in
     let rest : List Turn = round_from (start + 1) slice behind needs in
     subst (WaitsAtMost most slot) (sym (append_assoc (one_turn start n) rest turns))
-    (waits_first most slot start n (rest ++ turns) (λ same. omega (arith, same, below)) (above_waits most slot (start + 1) slice behind needs turns (omega (arith, below)) waits))
+    (waits_first most slot start n (rest ++ turns) (differ start (omega arith) (omega arith))
+    (others_wait most slot (start + 1) slice behind needs turns (λ other from below. differ other (omega (arith, from)) (omega (arith, below))) waits))
 
 above_none : (slot start slice behind : ℕ) (needs : List ℕ) (turns : List Turn) → slot < start → before_next slot turns ≡ None
     → before_next slot (round_from start slice behind needs ++ turns) ≡ None
@@ -124,7 +126,7 @@ own_waits most slot start zero k first slice behind (need ∷ needs) turns at th
     (subst (λ s. WaitsAtMost most slot (one_turn s n ++ (rest ++ turns))) same
     (waits_own most slot n (rest ++ turns)
     (within_less (length needs * slice + first) most (before_next slot (rest ++ turns)) less (above_within slot (start + 1) slice behind first needs turns (omega (arith, at)) within))
-    (above_waits most slot (start + 1) slice behind needs turns (omega (arith, at)) waits)))
+    (others_wait most slot (start + 1) slice behind needs turns (λ other from below same. omega (arith, same, from, at)) waits)))
 own_waits most slot start (suc i) k first slice behind (need ∷ needs) turns at there le within waits =
     let n : ℕ = min slice (need - behind * slice) in
     let rest : List Turn = round_from (start + 1) slice behind needs in
@@ -154,19 +156,10 @@ rounds_wait (suc n) slot slice behind k needs positive there =
     (rounds_within n slot slice (behind + 1) needs positive) (rounds_wait n slot slice (behind + 1) k needs positive there)
 
 -- a slot that has no part has no turn
-beyond_waits : (most slot start slice behind : ℕ) (needs : List ℕ) (turns : List Turn) → start + length needs ≤ slot → WaitsAtMost most slot turns
-    → WaitsAtMost most slot (round_from start slice behind needs ++ turns)
-beyond_waits most slot start slice behind [] turns beyond waits = waits
-beyond_waits most slot start slice behind (need ∷ needs) turns beyond waits =
-    let n : ℕ = min slice (need - behind * slice) in
-    let rest : List Turn = round_from (start + 1) slice behind needs in
-    subst (WaitsAtMost most slot) (sym (append_assoc (one_turn start n) rest turns))
-    (waits_first most slot start n (rest ++ turns) (λ same. omega (arith, same, beyond)) (beyond_waits most slot (start + 1) slice behind needs turns (omega (arith, beyond)) waits))
-
 rounds_beyond : (n most slot slice behind : ℕ) (needs : List ℕ) → length needs ≤ slot → WaitsAtMost most slot (rounds n slice behind needs)
 rounds_beyond zero most slot slice behind needs beyond = tt
 rounds_beyond (suc n) most slot slice behind needs beyond =
-    beyond_waits most slot 0 slice behind needs (rounds n slice (behind + 1) needs) (omega (arith, beyond)) (rounds_beyond n most slot slice (behind + 1) needs beyond)
+    others_wait most slot 0 slice behind needs (rounds n slice (behind + 1) needs) (λ other from below same. omega (arith, same, below, beyond)) (rounds_beyond n most slot slice (behind + 1) needs beyond)
 
 pub waits_in_turns : (slice slot : ℕ) (needs : List ℕ) → 1 ≤ slice → WaitsAtMost ((length needs - 1) * slice) slot (turns_of slice needs)
 waits_in_turns slice slot needs positive = by (nat_le (length needs) slot) refl

@@ -5,7 +5,8 @@ use Rattle.tcl_vars.specs.Store.{Store}
 use Rattle.tcl_interp.specs.declared.interp.SliceEnd.{SliceEnd}
 use Rattle.tcl_interp.specs.declared.interp.SliceEnd.TheVariants as slice
 use Rattle.tcl_interp.specs.Finish.{RestToDo, Idle, Spent, Broken}
-use Rattle.tcl_interp.specs.Interp.{IsRunning}
+use Rattle.tcl_interp.specs.declared.interp.Interp.{Interp}
+use Rattle.tcl_interp.specs.Interp.{IsRunning, context_of, left_of, rest_of}
 use Rattle.tcl_table.specs.Table.{NamedCommands, first_commands}
 use Rattle.tcl_interp.specs.declared.job.Task.{Task}
 use Rattle.tcl_interp.specs.declared.job.Task.TheVariants as task
@@ -28,7 +29,7 @@ use Rattle.tk_app.specs.declared.state.AppEnd.TheVariants.{Settled, More, Stoppe
 use Rattle.tk_app.specs.Application.{Application}
 use Rattle.tk_app.specs.Names.{command_names}
 use Rattle.tk_app.specs.Moments.{delivered, granted}
-use Rattle.tk_app.specs.Part.{Part, Work, Rests, needs, settling_begun, stage_done, task_begins}
+use Rattle.tk_app.specs.Part.{Part, Work, Rests, needs, settling_begun, stage_done, task_begins, work_of}
 use Rattle.tk_app.specs.Seen.{Meaning, names_of}
 use Rattle.tk_app.specs.SettleJob.{settling}
 
@@ -70,6 +71,19 @@ abbrev pub work_by : AppState → Work → Work
 work_by Running work = work
 work_by Exhausted work = Rests
 work_by Closed work = Rests
+
+-- one by what its runner keeps: the commands, the steps left and what is under way stand in its interpreter
+abbrev pub program_with : {M : Type 0} → List ℕ → List (List ℕ × M) → Budget → Store → Interp (Task Job) → AppState → Program M
+program_with name aliases budget store interp state = record {
+  name = name;
+  aliases = aliases;
+  budget = budget;
+  store = store;
+  commands = (context_of interp).commands;
+  steps = left_of interp;
+  state = state;
+  work = work_by state (work_of (rest_of interp) (context_of interp).levels);
+}
 
 abbrev pub application_of : {M : Type 0} → Panel → Program M → Application M
 application_of panel program = record {

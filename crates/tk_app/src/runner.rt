@@ -41,22 +41,12 @@ pub struct Runner<M: AliasService> {
 
 impl<M: AliasService> Model for Runner<M> {
     ghost use Rattle.std.specs.Prelude.{◌≡◌};
-    ghost use Rattle.tcl_interp.specs.Interp.{budget_of, context_of, left_of, rest_of};
-    ghost use Rattle.tk_app.specs.Part.{work_of};
-    ghost use Rattle.tk_app.specs.Turns.{IsAsFar, Program, work_by};
+    ghost use Rattle.tcl_interp.specs.Interp.{budget_of, rest_of};
+    ghost use Rattle.tk_app.specs.Turns.{IsAsFar, Program, program_with};
 
     ghost Value = { Program M };
 
-    ghost view = { λ r. record {
-      name = r.name;
-      aliases = r.aliases;
-      budget = r.budget;
-      store = r.scopes;
-      commands = (context_of r.interp).commands;
-      steps = left_of r.interp;
-      state = r.state;
-      work = work_by r.state (work_of (rest_of r.interp) (context_of r.interp).levels);
-    } };
+    ghost view = { λ r. program_with r.name r.aliases r.budget r.scopes r.interp r.state };
 
     ghost invariant = { λ r. IsAsFar r.progress r.state (rest_of r.interp) × (budget_of r.interp ≡ r.budget.total) };
 }

@@ -9,6 +9,7 @@ use Rattle.tk_class_commands.specs.declared.buttons.ButtonRequest.TheVariants.{E
 use Rattle.tk_class_commands.specs.declared.outcome.ClassOutcome.{ClassOutcome}
 use Rattle.tk_class_commands.specs.declared.outcome.ClassOutcome.TheVariants.{Acts}
 use Rattle.tk_class_commands.specs.Outcomes.{nothing}
+pub use Rattle.tk_class_commands.specs.Outcomes.{Told, told}
 use Rattle.tk_inputs.specs.declared.inputs.Input.{Input}
 use Rattle.tk_inputs.specs.Inputs.{left_by}
 use Rattle.tk_options.specs.declared.option.OptionEntry.{OptionEntry}
@@ -21,15 +22,6 @@ use Rattle.tk_widgets.specs.Classes.{has_value, invoked, relief_of}
 use Rattle.tk_widgets.specs.declared.outcome.WidgetAct.TheVariants.{Script}
 use Rattle.tk_widgets.specs.declared.outcome.WidgetChange.TheVariants.{Configure}
 use Rattle.tk_widgets.specs.declared.widget.Widget.{Widget}
-
--- what is left of the application, and what comes of the command
-pub record Told : Type 0 where
-  pub own : Windowing
-  pub input : Input
-  pub outcome : ClassOutcome
-
-abbrev pub told : Windowing → Input → ClassOutcome → Told
-told own input outcome = record { own = own; input = input; outcome = outcome }
 
 -- ---- parts
 
@@ -65,32 +57,32 @@ relief_to_keep number own = option_and_then (λ widget. kept_of widget.options) 
 
 -- ---- the commands
 
-abbrev pub pointer_entered : ℕ → Windowing → Input → Told
+abbrev pub pointer_entered : ℕ → Windowing → Input → Told Input
 pointer_entered number own input =
     told (if is_it number input.pressed then with_relief number (codes "sunken") own else own) (record input { over = Some number }) nothing
 
-abbrev pub pointer_left : ℕ → Windowing → Input → Told
+abbrev pub pointer_left : ℕ → Windowing → Input → Told Input
 pointer_left number own input = told (if is_it number input.pressed then restored number input.relief own else own) (left_by number input) nothing
 
-abbrev pub pressed_with : ℕ → Windowing → Input → Option (List ℕ) → Told
+abbrev pub pressed_with : ℕ → Windowing → Input → Option (List ℕ) → Told Input
 pressed_with number own input None = told own input nothing
 pressed_with number own input (Some relief) =
     told (with_relief number (codes "sunken") own) (record input { pressed = Some number; relief = Some relief }) nothing
 
-abbrev pub pressed : ℕ → Windowing → Input → Told
+abbrev pub pressed : ℕ → Windowing → Input → Told Input
 pressed number own input = pressed_with number own input (relief_to_keep number own)
 
 -- it is invoked where the pointer is over it
 abbrev pub invoked_over : ℕ → Input → Windowing → ClassOutcome
 invoked_over number input own = if is_it number input.over then invoked_at number own else nothing
 
-abbrev pub let_go : ℕ → Windowing → Input → Told
+abbrev pub let_go : ℕ → Windowing → Input → Told Input
 let_go number own input =
     if is_it number input.pressed
     then told (restored number input.relief own) (record input { pressed = None }) (invoked_over number input (restored number input.relief own))
     else told own input nothing
 
-unfoldable pub act : ButtonRequest → ℕ → Windowing → Input → Told
+unfoldable pub act : ButtonRequest → ℕ → Windowing → Input → Told Input
 act Enter number own input = pointer_entered number own input
 act Leave number own input = pointer_left number own input
 act Press number own input = pressed number own input

@@ -7,19 +7,20 @@ use Rattle.tk_class_commands.specs.declared.requests.ClassRequest.TheVariants.{B
 use Rattle.tk_class_commands.specs.declared.requests.ClassTarget.{ClassTarget}
 use Rattle.tk_class_commands.specs.Entries.{entry_asked}
 use Rattle.tk_class_commands.specs.Listboxes as listboxes
-use Rattle.tk_class_commands.specs.Outcomes.{Done, done, error}
+use Rattle.tk_class_commands.specs.Outcomes.{Done, Told, done, error}
 use Rattle.tk_class_commands.specs.Requests.{target_in}
 use Rattle.tk_class_commands.specs.Table.{ClassCommand}
+use Rattle.tk_inputs.specs.declared.inputs.Input.{Input}
 use Rattle.tk_inputs.specs.Deliver.{Arrivals}
 use Rattle.tk_screen.specs.Own.{Windowing}
 
 -- commands of buttons have to do with no variables and no events
-abbrev pub button_done : Arrivals → Store → buttons.Told → Done
-button_done arrivals store there = done there.own (record arrivals { input = there.input }) store there.outcome
+abbrev pub button_done : Arrivals → Store → Told Input → Done
+button_done arrivals store there = done there.own (record arrivals { input = there.kept }) store there.outcome
 
 -- commands of listboxes have to do with no variables
-abbrev pub listbox_done : Store → listboxes.Told → Done
-listbox_done store there = done there.own there.arrivals store there.outcome
+abbrev pub listbox_done : Store → Told Arrivals → Done
+listbox_done store there = done there.own there.kept store there.outcome
 
 -- what is asked of the widget with a number, at a moment
 abbrev pub asked : ℕ → ℕ → ClassRequest → Windowing → Arrivals → Store → Done

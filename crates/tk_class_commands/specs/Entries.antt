@@ -10,6 +10,7 @@ use Rattle.tk_class_commands.specs.declared.entries.EntryRequest.{EntryRequest}
 use Rattle.tk_class_commands.specs.declared.entries.EntryRequest.TheVariants as request
 use Rattle.tk_class_commands.specs.declared.outcome.ClassOutcome.{ClassOutcome}
 use Rattle.tk_class_commands.specs.Outcomes.{Done, done, nothing, outcome_of}
+pub use Rattle.tk_class_commands.specs.Outcomes.{Told, told}
 use Rattle.tk_widgets.specs.declared.entry.Entry.{Entry as EntryText}
 use Rattle.tk_widgets.specs.Columns.{characters_within}
 use Rattle.tk_widgets.specs.Entries.{moved, shown}
@@ -35,25 +36,16 @@ use Rattle.tk_widgets.specs.Outcomes.{asked_by}
 
 -- ---- a key that edits
 
--- what is left of the application's windows and variables, and what comes of the command
-pub record Edited : Type 0 where
-  pub own : Windowing
-  pub store : Store
-  pub outcome : ClassOutcome
-
-abbrev pub edit_told : Windowing → Store → ClassOutcome → Edited
-edit_told own store outcome = record { own = own; store = store; outcome = outcome }
-
 -- an edit sets the variable that the entry shows; where that can't be set, its error is told, and nothing is changed
-abbrev pub edited_as : ℕ → Windowing → Store → WidgetRequest → Edited
-edited_as number own store (asked.Done act) = edit_told own store (outcome_of (Some act))
+abbrev pub edited_as : ℕ → Windowing → Store → WidgetRequest → Told Store
+edited_as number own store (asked.Done act) = told own store (outcome_of (Some act))
 edited_as number own store (asked.Wants change) =
-    (let there = changed number change own store in edit_told there.own there.store (outcome_of there.act))
+    (let there = changed number change own store in told there.own there.store (outcome_of there.act))
 
-abbrev pub edited : ℕ → EntryEdit → Windowing → Store → Edited
+abbrev pub edited : ℕ → EntryEdit → Windowing → Store → Told Store
 edited number key own store =
     option_map_or (λ widget. edited_as number own store (asked_by (edit_asked key (variable_text widget store) widget))) (widget_at number own.widgets)
-    (edit_told own store nothing)
+    (told own store nothing)
 
 -- ---- the cursor
 
@@ -87,8 +79,8 @@ pointed number moment x own arrivals store =
 
 -- ---- what is asked of an entry
 
-abbrev pub edit_done : Arrivals → Edited → Done
-edit_done arrivals there = done there.own arrivals there.store there.outcome
+abbrev pub edit_done : Arrivals → Told Store → Done
+edit_done arrivals there = done there.own arrivals there.kept there.outcome
 
 abbrev pub entry_asked : ℕ → ℕ → EntryRequest → Windowing → Arrivals → Store → Done
 entry_asked number moment (request.Edit key) own arrivals store = edit_done arrivals (edited number key own store)

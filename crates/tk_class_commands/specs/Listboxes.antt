@@ -8,6 +8,7 @@ use Rattle.tk_class_commands.specs.declared.listboxes.ListboxRequest.TheVariants
 use Rattle.tk_class_commands.specs.declared.outcome.ClassOutcome.{ClassOutcome}
 use Rattle.tk_class_commands.specs.declared.outcome.ClassOutcome.TheVariants.{Selects}
 use Rattle.tk_class_commands.specs.Outcomes.{nothing}
+pub use Rattle.tk_class_commands.specs.Outcomes.{Told, told}
 use Rattle.tk_inputs.specs.Deliver.{Arrivals}
 use Rattle.tk_inputs.specs.Focus.{focused}
 use Rattle.tk_widgets.specs.declared.choice.Choice.{Choice}
@@ -21,15 +22,6 @@ use Rattle.tk_widgets.specs.declared.outcome.WidgetChange.TheVariants.{Activate,
 use Rattle.tk_widgets.specs.declared.widget.Parts.{Parts}
 use Rattle.tk_widgets.specs.declared.widget.Parts.TheVariants.{Listbox}
 use Rattle.tk_widgets.specs.ListboxKeys.{has_mode, place_after, row_of}
-
--- what is left of the application, and what comes of the command
-pub record Told : Type 0 where
-  pub own : Windowing
-  pub arrivals : Arrivals
-  pub outcome : ClassOutcome
-
-abbrev pub told : Windowing → Arrivals → ClassOutcome → Told
-told own arrivals outcome = record { own = own; arrivals = arrivals; outcome = outcome }
 
 -- ---- what is asked of a listbox
 
@@ -92,10 +84,10 @@ abbrev pub outcome_of : ℕ → Option Choice → ClassOutcome
 outcome_of number made = option_map_or (λ choice. Selects number) made nothing
 
 -- a press that does something gives the listbox the keys
-abbrev pub asked_with : ℕ → ℕ → ListboxRequest → Windowing → Arrivals → Option Effect → Told
+abbrev pub asked_with : ℕ → ℕ → ListboxRequest → Windowing → Arrivals → Option Effect → Told Arrivals
 asked_with number moment request own arrivals None = told own arrivals nothing
 asked_with number moment request own arrivals (Some effect) =
     told (with_effect number effect own) (if is_press request then focused number moment own.tree arrivals else arrivals) (outcome_of number effect.choice)
 
-unfoldable pub listbox_asked : ℕ → ℕ → ListboxRequest → Windowing → Arrivals → Told
+unfoldable pub listbox_asked : ℕ → ℕ → ListboxRequest → Windowing → Arrivals → Told Arrivals
 listbox_asked number moment request own arrivals = asked_with number moment request own arrivals (effect_at number request own)

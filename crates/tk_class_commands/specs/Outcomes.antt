@@ -20,6 +20,15 @@ abbrev pub outcome_of : Option WidgetAct → ClassOutcome
 outcome_of (Some act) = Acts act
 outcome_of None = nothing
 
+-- what is left of the application's windows and of what else a command of a widget has to do with, and what comes of it
+pub record Told (Kept : Type 0) : Type 0 where
+  pub own : Windowing
+  pub kept : Kept
+  pub outcome : ClassOutcome
+
+abbrev pub told : {Kept : Type 0} → Windowing → Kept → ClassOutcome → Told Kept
+told own kept outcome = record { own = own; kept = kept; outcome = outcome }
+
 -- what is left of the application, and what comes of the command
 pub record Done : Type 0 where
   pub own : Windowing

@@ -79,7 +79,7 @@ fn edit(
     win: Win,
     key: EntryEdit,
 ) -> Result<ClassOutcome, AllocError>
-    ensures own { IfOk result (λ outcome. spec.edit_told (own_of win.owner screen.new) scopes.new outcome
+    ensures own { IfOk result (λ outcome. spec.told (own_of win.owner screen.new) scopes.new outcome
         ≡ spec.edited win.number key (own_of win.owner screen.old) scopes.old) }
     ensures others { LeavesOthers win.owner screen.old screen.new }
 {

@@ -25,6 +25,26 @@ use Rattle.tk_commands.specs.Course.{bound_ended, course, ended_by, looked_of}
 use Rattle.tk_commands.specs.Rests.{DueComes, Rests, has_settled, home_settles, is_empty, rest_settles, settles_last}
 use Rattle.tk_commands.proofs.Drained.{LeavesTimers, drained_leaves, drained_out, layout_leaves, then}
 
+-- What holds of all that comes next of a job that settles: it holds of what comes after a round, and where a script is there to run.
+module _ (Comes : Store → Panel → Next → Type 0)
+    (round : (store : Store) (left : List ℕ) (panel : Panel) → Comes store panel (after_round Settle store left panel))
+    (script : (store : Store) (panel : Panel) (job : Job) → settles_last job ≡ true → Comes store panel (panel, Some job)) where
+  rest_so : (rest : Rest) (store : Store) (panel : Panel) → rest_settles rest ≡ true → Comes store panel (next_rest rest store panel)
+  rest_so NoRest store panel is = cc
+  rest_so (Destroys window doomed paths) store panel is = cc
+  rest_so (Rounds ids Settle) store panel is = round store (still_waiting ids panel.timers.entries) panel
+  rest_so (Rounds ids Update) store panel is = cc
+  rest_so (Rounds ids IdleTasks) store panel is = cc
+  rest_so (Rounds ids LastLayout) store panel is = cc
+
+  pub next_so : (job : Job) (store : Store) (panel : Panel) → settles_last job ≡ true → Comes store panel (next job store panel)
+  next_so job store panel is = by job.event
+    where
+      by : (event : Option (List (List ℕ))) → Comes store panel (next_event event job.rest store panel)
+      by (Some (one ∷ scripts)) = script store panel (record { event = Some (one ∷ scripts); rest = job.rest }) is
+      by (Some []) = rest_so job.rest store panel is
+      by None = rest_so job.rest store panel is
+
 -- either nothing comes next, and nothing is left to do, or a job that settles too
 abbrev pub OnJob : Panel → Option Job → Type 0
 OnJob panel None = has_settled panel ≡ true
@@ -89,21 +109,8 @@ left_comes : (store : Store) (left : List ℕ) (panel : Panel) → On (after_rou
 left_comes store [] panel = home_comes store panel
 left_comes store (id ∷ ids) panel = refl
 
-rest_comes : (rest : Rest) (store : Store) (panel : Panel) → rest_settles rest ≡ true → On (next_rest rest store panel)
-rest_comes NoRest store panel is = cc
-rest_comes (Destroys window doomed paths) store panel is = cc
-rest_comes (Rounds ids Settle) store panel is = left_comes store (still_waiting ids panel.timers.entries) panel
-rest_comes (Rounds ids Update) store panel is = cc
-rest_comes (Rounds ids IdleTasks) store panel is = cc
-rest_comes (Rounds ids LastLayout) store panel is = cc
-
-event_comes : (event : Option (List (List ℕ))) (rest : Rest) (store : Store) (panel : Panel) → rest_settles rest ≡ true → On (next_event event rest store panel)
-event_comes (Some (script ∷ scripts)) rest store panel is = is
-event_comes (Some []) rest store panel is = rest_comes rest store panel is
-event_comes None rest store panel is = rest_comes rest store panel is
-
 pub comes : (job : Job) (store : Store) (panel : Panel) → settles_last job ≡ true → On (next job store panel)
-comes job store panel is = event_comes job.event job.rest store panel is
+comes job store panel is = next_so (λ store panel there. On there) left_comes (λ store panel job is. is) job store panel is
 
 -- ── jobs that settle stay so ──
 

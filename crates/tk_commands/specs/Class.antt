@@ -10,16 +10,14 @@ use Rattle.tk_panel.specs.Panel.{Panel}
 use Rattle.tk_panel.specs.Deliver.{arrivals_in}
 use Rattle.tk_commands.specs.declared.outcome.CommandOutcome.TheVariants.{Acts}
 use Rattle.tk_commands.specs.Dispatch.{selection_told}
-use Rattle.tk_commands.specs.Outcomes.{Done, Told, told, with_store}
+use Rattle.tk_commands.specs.Outcomes.{Done, Ended, Told, done, told, with_store}
 
 -- what is left of the application, and what comes of the command for the class
-pub record ClassDone : Type 0 where
-  pub panel : Panel
-  pub store : Store
-  pub outcome : ClassOutcome
+abbrev pub ClassDone : Type 0
+ClassDone = Ended ClassOutcome
 
 abbrev pub class_done : Panel → Store → ClassOutcome → ClassDone
-class_done panel store outcome = record { panel = panel; store = store; outcome = outcome }
+class_done panel store outcome = done panel store outcome
 
 abbrev pub with_done : Panel → outcomes.Done → ClassDone
 with_done panel there =

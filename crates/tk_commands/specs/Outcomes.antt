@@ -7,13 +7,17 @@ use Rattle.tk_commands.specs.declared.outcome.CommandOutcome.{CommandOutcome}
 use Rattle.tk_commands.specs.declared.outcome.CommandOutcome.TheVariants.{Acts}
 use Rattle.tk_widgets.specs.declared.outcome.WidgetAct.TheVariants as act
 
-pub record Done : Type 0 where
+-- the panel and the variables that are left, and what comes of the command
+pub record Ended (Outcome : Type 0) : Type 0 where
   pub panel : Panel
   pub store : Store
-  pub outcome : CommandOutcome
+  pub outcome : Outcome
 
-abbrev pub done : Panel → Store → CommandOutcome → Done
+abbrev pub done : {Outcome : Type 0} → Panel → Store → Outcome → Ended Outcome
 done panel store outcome = record { panel = panel; store = store; outcome = outcome }
+
+abbrev pub Done : Type 0
+Done = Ended CommandOutcome
 
 -- the same of a command that has to do with no variables
 pub record Told : Type 0 where

@@ -5,7 +5,7 @@ use Rattle.tcl_control.specs.declared.code.Code.{Code}
 use Rattle.tcl_interp.specs.Evaluation.{State, Ended}
 use Rattle.tk_after.specs.Timers.{idle_ids}
 use Rattle.tk_panel.specs.declared.job.Home.{Home}
-use Rattle.tk_panel.specs.declared.job.Home.TheVariants.{Settle, Update, IdleTasks, LastLayout}
+use Rattle.tk_panel.specs.declared.job.Home.TheVariants.{Settle}
 use Rattle.tk_panel.specs.declared.job.Job.{Job}
 use Rattle.tk_panel.specs.declared.job.Rest.{Rest}
 use Rattle.tk_panel.specs.declared.job.Rest.TheVariants.{Ends, Destroys, Rounds}
@@ -26,9 +26,7 @@ has_settled panel = is_closed panel || (is_empty panel.queue && (not (is_due pan
 -- a job that settles behind what is under way
 abbrev pub home_settles : Home → Bool
 home_settles Settle = true
-home_settles Update = false
-home_settles IdleTasks = false
-home_settles LastLayout = false
+home_settles _ = false
 
 abbrev pub rest_settles : Rest → Bool
 rest_settles Ends = false

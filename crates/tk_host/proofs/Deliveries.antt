@@ -1,5 +1,5 @@
 -- What events make of a list of parts.
-use Rattle.std.proofs.Common.{◌≡◌, ◌≢◌, ◌+◌, ◌-◌, ◌<◌, ◌≤◌, ℕ, zero, suc, Bool, true, false, ◌||◌, cond, List, [], ◌∷◌, ◌++◌, length, set, map, Some, refl, sym, ap, ◌∙◌, append-nil, eq-eqb, arith}
+use Rattle.std.proofs.Common.{◌≡◌, ◌≢◌, ◌+◌, ◌-◌, ◌<◌, ◌≤◌, ℕ, zero, suc, Bool, true, false, ◌||◌, cond, List, [], ◌∷◌, ◌++◌, length, set, map, Some, refl, sym, ap, ◌∙◌, append-nil, append_assoc, eq-eqb, arith}
 use Rattle.std.specs.Prelude.{nat_eq, slice_get, ◌==◌, if◌then◌else◌}
 use Rattle.std.proofs.lemmas.Bool.{eqb-true}
 use Rattle.tk_base.specs.declared.local_event.LocalEvent.{LocalEvent}
@@ -16,7 +16,7 @@ use Rattle.tk_host.specs.Held.{at_rest}
 use Rattle.tk_host.specs.Ready.{AllRest}
 use Rattle.tk_host.specs.Slots.{given_event, given_from}
 use Rattle.tk_host.specs.Turns.{after_each, after_given, applications, stages_of, steps_for, steps_given, turns_given}
-use Rattle.tk_host.proofs.Parts.{done_at_rest, rests}
+use Rattle.tk_host.proofs.Parts.{apps_at, done_at_rest, rests}
 
 -- the event of each delivery
 abbrev event_in : Delivery → LocalEvent
@@ -151,6 +151,24 @@ module _ {M : Type 0} (answer : M → Meaning) where
       ap (λ b. turns_given answer slice (if b || false then (first ∷ []) ∷ (second ∷ []) ∷ [] else (first ∷ second ∷ []) ∷ []) apps) (eq-eqb first.slot second.slot same)
       ∙ ap (λ ts. turns_of slice (steps_given answer 0 (first ∷ []) apps) ++ ts) (append-nil (turns_of slice (steps_given answer 0 (second ∷ []) (after_given answer 0 (first ∷ []) apps))))
 
+  -- the applications where they rest behind an event
+  pub apps_after : (first : Delivery) (apps : List (Application M)) (parts : List (Part M)) → parts ≡ map at_rest (after_given answer 0 (first ∷ []) apps)
+      → applications parts ≡ after_given answer 0 (first ∷ []) apps
+  apps_after first apps parts is = ap applications is ∙ apps_at answer (after_given answer 0 (first ∷ []) apps)
+
+  -- the turns of one stage, and then those of the other, are those of both
+  pub turns_joined : (slice : ℕ) (first second : Delivery) (old there : Applications M) → first.slot ≡ second.slot
+      → there.turns ≡ old.turns ++ turns_given answer slice (stages_of (first ∷ [])) (applications old.parts) → applications there.parts ≡ after_given answer 0 (first ∷ []) (applications old.parts)
+      → there.turns ++ turns_given answer slice (stages_of (second ∷ [])) (applications there.parts) ≡ old.turns ++ turns_given answer slice (stages_of (first ∷ second ∷ [])) (applications old.parts)
+  turns_joined slice first second old there same told mid =
+      let apps : List (Application M) = applications old.parts in
+      let next : List (Application M) = after_given answer 0 (first ∷ []) apps in
+      ap (λ ts. there.turns ++ ts) (turns_one slice second (applications there.parts))
+      ∙ ap (λ parts. there.turns ++ turns_of slice (steps_given answer 0 (second ∷ []) parts)) mid
+      ∙ ap (λ ts. ts ++ turns_of slice (steps_given answer 0 (second ∷ []) next)) (told ∙ ap (λ ts. old.turns ++ ts) (turns_one slice first apps))
+      ∙ append_assoc old.turns (turns_of slice (steps_given answer 0 (first ∷ []) apps)) (turns_of slice (steps_given answer 0 (second ∷ []) next))
+      ∙ ap (λ ts. old.turns ++ ts) (sym (turns_same slice first second apps same))
+
 -- ── the part in a slot is given an event ──
 
 module _ {M : Type 0} where
@@ -173,22 +191,23 @@ module _ {M : Type 0} where
     abbrev given_if : Bool → Part M → Part M
     given_if b part = if b then given_event delivery.event part else part
 
-    given_past : (n : ℕ) (parts : List (Part M)) → delivery.slot < n → given_from n delivery parts ≡ parts
-    given_past n [] less = refl
-    given_past n (p ∷ ps) less = by (nat_eq delivery.slot n) refl ∙ ap (λ qs. p ∷ qs) (given_past (n + 1) ps (omega (arith, less)))
+    -- none of these parts is in its slot
+    given_apart : (n : ℕ) (parts : List (Part M)) → ((slot : ℕ) → n ≤ slot → slot < n + length parts → delivery.slot ≢ slot) → given_from n delivery parts ≡ parts
+    given_apart n [] apart = refl
+    given_apart n (p ∷ ps) apart =
+        by (nat_eq delivery.slot n) refl
+        ∙ ap (λ qs. p ∷ qs) (given_apart (n + 1) ps (λ slot from below. apart slot (omega (arith, from)) (omega (arith, below))))
       where
         by : (b : Bool) → nat_eq delivery.slot n ≡ b → given_if b p ∷ given_from (n + 1) delivery ps ≡ p ∷ given_from (n + 1) delivery ps
-        by true is = let same : delivery.slot ≡ n = eqb-true delivery.slot n is in absurd (omega (arith, same, less))
+        by true is = absurd (apart n (omega arith) (omega arith) (eqb-true delivery.slot n is))
         by false is = refl
+
+    given_past : (n : ℕ) (parts : List (Part M)) → delivery.slot < n → given_from n delivery parts ≡ parts
+    given_past n parts less = given_apart n parts (λ slot from below same. omega (arith, same, from, less))
 
     -- nobody is given what is behind the last slot
     pub given_nobody : (n : ℕ) (parts : List (Part M)) → n + length parts ≤ delivery.slot → given_from n delivery parts ≡ parts
-    given_nobody n [] far = refl
-    given_nobody n (p ∷ ps) far = by (nat_eq delivery.slot n) refl ∙ ap (λ qs. p ∷ qs) (given_nobody (n + 1) ps (omega (arith, far)))
-      where
-        by : (b : Bool) → nat_eq delivery.slot n ≡ b → given_if b p ∷ given_from (n + 1) delivery ps ≡ p ∷ given_from (n + 1) delivery ps
-        by true is = let same : delivery.slot ≡ n = eqb-true delivery.slot n is in absurd (omega (arith, same, far))
-        by false is = refl
+    given_nobody n parts far = given_apart n parts (λ slot from below same. omega (arith, same, below, far))
 
     given_at : (n i : ℕ) (parts : List (Part M)) (part : Part M) → n + i ≡ delivery.slot → slice_get parts i ≡ Some part → given_from n delivery parts ≡ set parts i (given_event delivery.event part)
     given_at n i [] part e is = cc

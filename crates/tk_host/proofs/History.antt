@@ -213,25 +213,28 @@ module _ {M : Type 0} (answer : M → Meaning) where
       ∙ ap (λ ps. record { phase = Reached 0; known = values first []; parts = ps }) (started_parts first (lines_of calls) 0 apps)
       ∙ leads_on calls Start (Reached 0) [] refl refl refl
 
-  pub history_of_advance : (calls : List (Call M)) (before moment : ℕ) (old new : Hosted M) → old.held ≡ held_after answer calls → old.held.phase ≡ Reached before → before ≤ moment
-      → new ≡ gone_to answer (Reached moment) moment old → new.held ≡ held_after answer (calls ++ AdvanceTo moment ∷ [])
-  history_of_advance calls before moment old new held from le now =
+  -- what the host has where it went on to a moment
+  gone_in : (calls : List (Call M)) (before moment : ℕ) (phase : Phase) (old new : Hosted M) → old.held ≡ held_after answer calls → old.held.phase ≡ Reached before → before ≤ moment
+      → new ≡ gone_to answer phase moment old
+      → new.held ≡ record { phase = phase; known = values (map rect_of (given_by calls)) (lines_of calls); parts = parts_in answer (Reached moment) (map rect_of (given_by calls)) (lines_of calls) 0 (given_by calls) }
+  gone_in calls before moment phase old new held from le now =
       let apps : List (Given M) = given_by calls in
       let first : List Rect = map rect_of apps in
       ap (λ (h : Hosted M). h.held) now
-      ∙ ap (λ (h : HostState M). record { phase = Reached moment; known = h.known; parts = map (with_passed answer moment) h.parts }) (was_in calls old.held (Reached before) held from)
-      ∙ ap (λ ps. record { phase = Reached moment; known = values first (lines_of calls); parts = ps }) (brought_parts before moment le first (lines_of calls) 0 apps)
-      ∙ leads_on calls (AdvanceTo moment) (Reached moment) (lines_of calls) refl refl refl
+      ∙ ap (λ (h : HostState M). record { phase = phase; known = h.known; parts = map (with_passed answer moment) h.parts }) (was_in calls old.held (Reached before) held from)
+      ∙ ap (λ ps. record { phase = phase; known = values first (lines_of calls); parts = ps }) (brought_parts before moment le first (lines_of calls) 0 apps)
+
+  pub history_of_advance : (calls : List (Call M)) (before moment : ℕ) (old new : Hosted M) → old.held ≡ held_after answer calls → old.held.phase ≡ Reached before → before ≤ moment
+      → new ≡ gone_to answer (Reached moment) moment old → new.held ≡ held_after answer (calls ++ AdvanceTo moment ∷ [])
+  history_of_advance calls before moment old new held from le now =
+      gone_in calls before moment (Reached moment) old new held from le now ∙ leads_on calls (AdvanceTo moment) (Reached moment) (lines_of calls) refl refl refl
 
   pub history_of_end : (calls : List (Call M)) (before moment : ℕ) (old new : Hosted M) → old.held ≡ held_after answer calls → old.held.phase ≡ Reached before → before ≤ moment
       → new ≡ gone_to answer (Finished moment) moment old → new.held ≡ held_after answer (calls ++ End moment ∷ [])
   history_of_end calls before moment old new held from le now =
-      let apps : List (Given M) = given_by calls in
-      let first : List Rect = map rect_of apps in
-      ap (λ (h : Hosted M). h.held) now
-      ∙ ap (λ (h : HostState M). record { phase = Finished moment; known = h.known; parts = map (with_passed answer moment) h.parts }) (was_in calls old.held (Reached before) held from)
-      ∙ ap (λ ps. record { phase = Finished moment; known = values first (lines_of calls); parts = ps })
-      (brought_parts before moment le first (lines_of calls) 0 apps ∙ finished_parts moment first (lines_of calls) 0 apps)
+      let first : List Rect = map rect_of (given_by calls) in
+      gone_in calls before moment (Finished moment) old new held from le now
+      ∙ ap (λ ps. record { phase = Finished moment; known = values first (lines_of calls); parts = ps }) (finished_parts moment first (lines_of calls) 0 (given_by calls))
       ∙ leads_on calls (End moment) (Finished moment) (lines_of calls) refl refl refl
 
   -- what is known is known by the lines

@@ -52,19 +52,6 @@ rects_set [] slot rect are is = tt
 rects_set (first ∷ rects) zero rect are is = (is, are.1)
 rects_set (first ∷ rects) (suc slot) rect are is = (are.0, rects_set rects slot rect are.1 is)
 
-rects_stay : (line : HostLine) (rects : List Rect) → AreOnScreen rects → IsInRange line → AreOnScreen (rects_by line rects)
-rects_stay (Move x y) rects are is = are
-rects_stay (Press button) rects are is = are
-rects_stay (Release button) rects are is = are
-rects_stay (Keydown key) rects are is = are
-rects_stay (Keyup key) rects are is = are
-rects_stay (Focus slot) rects are is = are
-rects_stay (Placed slot rect) rects are is = rects_set rects slot rect are is
-
-rects_lie : (first : List Rect) (lines : List Line) → AreOnScreen first → AreLinesInRange lines → AreOnScreen (rects_after first lines)
-rects_lie first [] are in_range = are
-rects_lie first (last ∷ earlier) are in_range = rects_stay last.line (rects_after first earlier) (rects_lie first earlier are in_range.1) in_range.0
-
 rect_lies : (rects : List Rect) (slot : ℕ) (rect : Rect) → AreOnScreen rects → slice_get rects slot ≡ Some rect → IsOnScreen rect
 rect_lies [] slot rect are at = absurd (cc)
 rect_lies (first ∷ rects) zero rect are at = subst IsFound at are.0
@@ -78,18 +65,20 @@ abbrev IsThere : Option Point → Type 0
 IsThere None = Unit {0}
 IsThere (Some point) = (point.x ≤ last_place) × (point.y ≤ last_place)
 
-point_stays : (line : HostLine) (pointer : Option Point) → IsThere pointer → IsInRange line → IsThere (pointer_by line pointer)
-point_stays (Move x y) pointer there is = is
-point_stays (Press button) pointer there is = there
-point_stays (Release button) pointer there is = there
-point_stays (Keydown key) pointer there is = there
-point_stays (Keyup key) pointer there is = there
-point_stays (Focus slot) pointer there is = there
-point_stays (Placed slot rect) pointer there is = there
+line_stays : (line : HostLine) (rects : List Rect) (pointer : Option Point) → AreOnScreen rects → IsThere pointer → IsInRange line → AreOnScreen (rects_by line rects) × IsThere (pointer_by line pointer)
+line_stays (Move x y) rects pointer are there is = (are, is)
+line_stays (Press button) rects pointer are there is = (are, there)
+line_stays (Release button) rects pointer are there is = (are, there)
+line_stays (Keydown key) rects pointer are there is = (are, there)
+line_stays (Keyup key) rects pointer are there is = (are, there)
+line_stays (Focus slot) rects pointer are there is = (are, there)
+line_stays (Placed slot rect) rects pointer are there is = (rects_set rects slot rect are is, there)
 
-point_lies : (lines : List Line) → AreLinesInRange lines → IsThere (pointer_after lines)
-point_lies [] in_range = tt
-point_lies (last ∷ earlier) in_range = point_stays last.line (pointer_after earlier) (point_lies earlier in_range.1) in_range.0
+lines_stay : (first : List Rect) (lines : List Line) → AreOnScreen first → AreLinesInRange lines → AreOnScreen (rects_after first lines) × IsThere (pointer_after lines)
+lines_stay first [] are in_range = (are, tt)
+lines_stay first (last ∷ earlier) are in_range =
+    let before = lines_stay first earlier are in_range.1 in
+    line_stays last.line (rects_after first earlier) (pointer_after earlier) before.0 before.1 in_range.0
 
 -- a point, from where a rectangle begins
 is_place : (place start : ℕ) → place ≤ last_place → start ≤ most_pixels → IsPlace (pos place -ℤ pos start)
@@ -204,10 +193,11 @@ routes_in_range first (line ∷ earlier) slot on in_range =
     let before : Values = values first earlier in
     let after : Values = values first (line ∷ earlier) in
     let given : List Delivery = routes first earlier line in
+    let there = lines_stay first (line ∷ earlier) on in_range in
     all_both IsEventInRange (reverse (events_of slot given)) (routed first earlier slot)
     (all_reversed IsEventInRange (events_of slot given)
     (events_in_range slot given
-    (told_in_range before after (rects_lie first (line ∷ earlier) on in_range) (point_lies (line ∷ earlier) in_range) line.moment line.line in_range.0)))
+    (told_in_range before after there.0 there.1 line.moment line.line in_range.0)))
     (routes_in_range first earlier slot on in_range.1)
 
 -- ── an application by itself ──

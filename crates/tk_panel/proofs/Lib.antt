@@ -1,6 +1,5 @@
 -- What the proofs share.
 pub mod Adds
-pub mod Bounds
 pub mod Choices
 pub mod ClassSequences
 pub mod Dooms

@@ -83,3 +83,7 @@ others_queue slot tables queue leaves = record {
   timers = λ k differ. refl;
   lines = λ k differ. refl;
 }
+
+-- What a loop over one application's tables carries on: what is left makes of its panel what all made of it at first, and the others stay.
+abbrev pub Carries : {Own : Type 0} (own all : Own) (slot : ℕ) (old new : Tables) → Type 0
+Carries own all slot old new = record { same : own ≡ all; others : LeavesOthers slot old new }

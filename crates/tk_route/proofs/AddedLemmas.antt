@@ -76,7 +76,7 @@ length-rects_by (Keyup key) xs = refl
 length-rects_by (Focus slot) xs = refl
 length-rects_by (Placed slot rect) xs = length-set xs slot rect
 
-length-rects_after : (first : List Rect) (lines : List Line) → length (rects_after first lines) ≡ length first
+pub length-rects_after : (first : List Rect) (lines : List Line) → length (rects_after first lines) ≡ length first
 length-rects_after first [] = refl
 length-rects_after first (last ∷ earlier) = length-rects_by last.line (rects_after first earlier) ∙ length-rects_after first earlier
 

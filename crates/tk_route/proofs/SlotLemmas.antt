@@ -1,8 +1,8 @@
 -- One application more, at a place among the slots, into whose rectangle no line leads.
-use Rattle.std.proofs.Common.{◌≡◌, ◌≢◌, ℕ, ◌+◌, ◌≤◌, zero, suc, Bool, true, false, not, cond, eqb, if◌then◌else◌, List, [], ◌∷◌, ◌++◌, ◌&&◌, ◌||◌, ◌==◌, length, map, filter, reverse, Option, Some, None, option_map, slice_get, slice_set, inl, inr, refl, ap, sym, ◌∙◌, subst, arith, add-one, length-append}
+use Rattle.std.proofs.Common.{◌≡◌, ℕ, ◌+◌, ◌≤◌, zero, suc, Bool, true, false, not, cond, eqb, if◌then◌else◌, List, [], ◌∷◌, ◌++◌, ◌||◌, length, map, reverse, Option, Some, None, option_map, slice_get, slice_set, inl, inr, refl, ap, sym, ◌∙◌, subst, arith, add-one, length-append}
 use Rattle.std.proofs.lemmas.Bool.{cases_Bool, eq-eqb, eqb-true, ne_eqb, eqb-false}
 use Rattle.std.proofs.lemmas.Iterator.Adapters.{position_from-zero}
-use Rattle.std.proofs.lemmas.List.{length-set, map-append}
+use Rattle.std.proofs.lemmas.List.{map-append}
 use Rattle.std.specs.List.{position_from}
 use Rattle.tk_base.specs.declared.rect.Rect.{Rect}
 use Rattle.tk_base.specs.declared.local_event.LocalEvent.{LocalEvent}
@@ -11,8 +11,8 @@ use Rattle.tk_base.specs.declared.local_event.LocalKind.TheVariants.{Position, F
 use Rattle.tk_base.specs.Names as names
 use Rattle.tk_route.specs.Added.{AllMiss, Misses, line_up, lines_up, up}
 use Rattle.tk_route.specs.Lines.{Line, focus_after, focus_by, holder_after, is_any_held_after, is_down, is_down_by, is_held, is_held_by, is_locked, is_locked_by, moment_after, pointer_after, pointer_by, rects_after, rects_by, under_after, values}
-use Rattle.tk_route.specs.Routes.{delivery, events_of, is_same, routed, routes, stamp_of, to, to_place, told, told_focus, told_size, under_in}
-use Rattle.tk_route.specs.Screen.{holds, slot_at}
+use Rattle.tk_route.specs.Routes.{delivery, events_of, is_same, routed, routes, stamp_of, to, to_place, told, told_size, under_in}
+use Rattle.tk_route.specs.Screen.{holds}
 use Rattle.tk_route.specs.Buttons.{has, is_any_held}
 use Rattle.tk_route.specs.Values.{Values, local, local_in, under}
 use Rattle.tk_route.specs.declared.buttons.Buttons.{Buttons}
@@ -23,6 +23,7 @@ use Rattle.tk_route.specs.declared.line.HostLine.{HostLine}
 use Rattle.tk_route.specs.declared.line.HostLine.TheVariants.{Move, Press, Release, Keydown, Keyup, Focus, Rect as Placed}
 use Rattle.tk_route.specs.declared.place.Place.{Place}
 use Rattle.tk_route.specs.declared.place.Point.{Point}
+use Rattle.tk_route.proofs.AddedLemmas.{length-rects_after}
 
 -- ---- slots and rectangles with one more
 
@@ -123,45 +124,22 @@ is_same-up place (Some a) (Some b) = eqb-up place a b
 
 -- ---- what the lines say
 
-pointer_by-up : (place : ℕ) (line : HostLine) (before : Option Point) → pointer_by (line_up place line) before ≡ pointer_by line before
-pointer_by-up place (Move x y) before = refl
-pointer_by-up place (Press button) before = refl
-pointer_by-up place (Release button) before = refl
-pointer_by-up place (Keydown key) before = refl
-pointer_by-up place (Keyup key) before = refl
-pointer_by-up place (Focus None) before = refl
-pointer_by-up place (Focus (Some slot)) before = refl
-pointer_by-up place (Placed slot rect) before = refl
+-- what names no slot is said of a line where the slots have moved up, too
+pub record SaysSame (line other : HostLine) : Type 0 where
+  pub pointer : (before : Option Point) → pointer_by other before ≡ pointer_by line before
+  pub held : (button : ℕ) (before : Bool) → is_held_by button other before ≡ is_held_by button line before
+  pub down : (key : ℕ) (before : Bool) → is_down_by key other before ≡ is_down_by key line before
+  pub locked : (before : Bool) → is_locked_by other before ≡ is_locked_by line before
 
-held_by-up : (place button : ℕ) (line : HostLine) (before : Bool) → is_held_by button (line_up place line) before ≡ is_held_by button line before
-held_by-up place button (Move x y) before = refl
-held_by-up place button (Press pressed) before = refl
-held_by-up place button (Release released) before = refl
-held_by-up place button (Keydown key) before = refl
-held_by-up place button (Keyup key) before = refl
-held_by-up place button (Focus None) before = refl
-held_by-up place button (Focus (Some slot)) before = refl
-held_by-up place button (Placed slot rect) before = refl
-
-down_by-up : (place key : ℕ) (line : HostLine) (before : Bool) → is_down_by key (line_up place line) before ≡ is_down_by key line before
-down_by-up place key (Move x y) before = refl
-down_by-up place key (Press button) before = refl
-down_by-up place key (Release button) before = refl
-down_by-up place key (Keydown pressed) before = refl
-down_by-up place key (Keyup released) before = refl
-down_by-up place key (Focus None) before = refl
-down_by-up place key (Focus (Some slot)) before = refl
-down_by-up place key (Placed slot rect) before = refl
-
-locked_by-up : (place : ℕ) (line : HostLine) (before : Bool) → is_locked_by (line_up place line) before ≡ is_locked_by line before
-locked_by-up place (Move x y) before = refl
-locked_by-up place (Press button) before = refl
-locked_by-up place (Release button) before = refl
-locked_by-up place (Keydown key) before = refl
-locked_by-up place (Keyup key) before = refl
-locked_by-up place (Focus None) before = refl
-locked_by-up place (Focus (Some slot)) before = refl
-locked_by-up place (Placed slot rect) before = refl
+line_says-up : (place : ℕ) (line : HostLine) → SaysSame line (line_up place line)
+line_says-up place (Move x y) = record { pointer = λ before. refl; held = λ button before. refl; down = λ key before. refl; locked = λ before. refl }
+line_says-up place (Press pressed) = record { pointer = λ before. refl; held = λ button before. refl; down = λ key before. refl; locked = λ before. refl }
+line_says-up place (Release released) = record { pointer = λ before. refl; held = λ button before. refl; down = λ key before. refl; locked = λ before. refl }
+line_says-up place (Keydown pressed) = record { pointer = λ before. refl; held = λ button before. refl; down = λ key before. refl; locked = λ before. refl }
+line_says-up place (Keyup released) = record { pointer = λ before. refl; held = λ button before. refl; down = λ key before. refl; locked = λ before. refl }
+line_says-up place (Focus None) = record { pointer = λ before. refl; held = λ button before. refl; down = λ key before. refl; locked = λ before. refl }
+line_says-up place (Focus (Some slot)) = record { pointer = λ before. refl; held = λ button before. refl; down = λ key before. refl; locked = λ before. refl }
+line_says-up place (Placed slot rect) = record { pointer = λ before. refl; held = λ button before. refl; down = λ key before. refl; locked = λ before. refl }
 
 focus_by-up : (place : ℕ) (line : HostLine) (before : Option ℕ) → focus_by (line_up place line) (option_map (up place) before) ≡ option_map (up place) (focus_by line before)
 focus_by-up place (Move x y) before = refl
@@ -183,38 +161,25 @@ rects_by-up place (Focus None) xs r h = refl
 rects_by-up place (Focus (Some slot)) xs r h = refl
 rects_by-up place (Placed slot rect) xs r h = set-with_rect place xs r slot rect h
 
-length-by : (line : HostLine) (xs : List Rect) → length (rects_by line xs) ≡ length xs
-length-by (Move x y) xs = refl
-length-by (Press button) xs = refl
-length-by (Release button) xs = refl
-length-by (Keydown key) xs = refl
-length-by (Keyup key) xs = refl
-length-by (Focus slot) xs = refl
-length-by (Placed slot rect) xs = length-set xs slot rect
-
-length-after : (first : List Rect) (lines : List Line) → length (rects_after first lines) ≡ length first
-length-after first [] = refl
-length-after first (last ∷ earlier) = length-by last.line (rects_after first earlier) ∙ length-after first earlier
-
 pointer_after-up : (place : ℕ) (lines : List Line) → pointer_after (lines_up place lines) ≡ pointer_after lines
 pointer_after-up place [] = refl
 pointer_after-up place (last ∷ earlier) =
-    pointer_by-up place last.line (pointer_after (lines_up place earlier)) ∙ ap (pointer_by last.line) (pointer_after-up place earlier)
+    (line_says-up place last.line).pointer (pointer_after (lines_up place earlier)) ∙ ap (pointer_by last.line) (pointer_after-up place earlier)
 
 is_held-up : (place button : ℕ) (lines : List Line) → is_held button (lines_up place lines) ≡ is_held button lines
 is_held-up place button [] = refl
 is_held-up place button (last ∷ earlier) =
-    held_by-up place button last.line (is_held button (lines_up place earlier)) ∙ ap (is_held_by button last.line) (is_held-up place button earlier)
+    (line_says-up place last.line).held button (is_held button (lines_up place earlier)) ∙ ap (is_held_by button last.line) (is_held-up place button earlier)
 
 is_down-up : (place key : ℕ) (lines : List Line) → is_down key (lines_up place lines) ≡ is_down key lines
 is_down-up place key [] = refl
 is_down-up place key (last ∷ earlier) =
-    down_by-up place key last.line (is_down key (lines_up place earlier)) ∙ ap (is_down_by key last.line) (is_down-up place key earlier)
+    (line_says-up place last.line).down key (is_down key (lines_up place earlier)) ∙ ap (is_down_by key last.line) (is_down-up place key earlier)
 
 is_locked-up : (place : ℕ) (lines : List Line) → is_locked (lines_up place lines) ≡ is_locked lines
 is_locked-up place [] = refl
 is_locked-up place (last ∷ earlier) =
-    locked_by-up place last.line (is_locked (lines_up place earlier)) ∙ ap (is_locked_by last.line) (is_locked-up place earlier)
+    (line_says-up place last.line).locked (is_locked (lines_up place earlier)) ∙ ap (is_locked_by last.line) (is_locked-up place earlier)
 
 focus_after-up : (place : ℕ) (lines : List Line) → focus_after (lines_up place lines) ≡ option_map (up place) (focus_after lines)
 focus_after-up place [] = refl
@@ -226,7 +191,7 @@ rects_after-up : (place : ℕ) (first : List Rect) (r : Rect) (lines : List Line
 rects_after-up place first r [] h = refl
 rects_after-up place first r (last ∷ earlier) h =
     ap (rects_by (line_up place last.line)) (rects_after-up place first r earlier h)
-    ∙ rects_by-up place last.line (rects_after first earlier) r (subst (λ (n : ℕ). place ≤ n) (sym (length-after first earlier)) h)
+    ∙ rects_by-up place last.line (rects_after first earlier) r (subst (λ (n : ℕ). place ≤ n) (sym (length-rects_after first earlier)) h)
 
 any_of : (a b c d e p q s t u : Bool) → a ≡ p → b ≡ q → c ≡ s → d ≡ t → e ≡ u → (a || b || c || d || e) ≡ (p || q || s || t || u)
 any_of a b c d e p q s t u f g h i j = cc
@@ -257,7 +222,7 @@ under_after-up : (place : ℕ) (first : List Rect) (r : Rect) (lines : List Line
 under_after-up place first r lines h miss =
     ap (λ (rects : List Rect). under rects (pointer_after (lines_up place lines))) (rects_after-up place first r lines h)
     ∙ ap (under (with_rect place r (rects_after first lines))) (pointer_after-up place lines)
-    ∙ under-with_rect place (rects_after first lines) r (pointer_after lines) (subst (λ (n : ℕ). place ≤ n) (sym (length-after first lines)) h) (missed r lines miss)
+    ∙ under-with_rect place (rects_after first lines) r (pointer_after lines) (subst (λ (n : ℕ). place ≤ n) (sym (length-rects_after first lines)) h) (missed r lines miss)
 
 held_choice : (f : ℕ → ℕ) (a b p q : Bool) (h u k w : Option ℕ) → a ≡ p → b ≡ q → h ≡ option_map f k → u ≡ option_map f w
     → (if not a then None else (if b then h else u)) ≡ option_map f (if not p then None else (if q then k else w))
@@ -421,8 +386,8 @@ routes-up place first r earlier line h miss =
     ∙ told-up place line.line (stamp_of line.moment before) before after r record {
       was_missed = missed r earlier miss.1;
       is_missed = missed r (line ∷ earlier) miss;
-      room_before = subst (λ (n : ℕ). place ≤ n) (sym (length-after first earlier)) h;
-      room = subst (λ (n : ℕ). place ≤ n) (sym (length-after first (line ∷ earlier))) h;
+      room_before = subst (λ (n : ℕ). place ≤ n) (sym (length-rects_after first earlier)) h;
+      room = subst (λ (n : ℕ). place ≤ n) (sym (length-rects_after first (line ∷ earlier))) h;
     }
 
 events_step : (b c : Bool) (event : LocalEvent) (given : Delivery) (rest : List Delivery) (own : Delivery) (others : List Delivery) → b ≡ c → given.event ≡ event → own.event ≡ event

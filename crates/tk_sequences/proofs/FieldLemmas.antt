@@ -1,16 +1,17 @@
 -- The fields of a pattern, one after another.
-use Rattle.std.proofs.Common.{◌≡◌, ◌≢◌, ℕ, suc, ◌+◌, ◌-◌, ◌<◌, ◌≤◌, Bool, true, false, cond, List, [], ◌∷◌, ◌++◌, zero, length, take, drop, get_or, not, nat_lt, nat_le, IsUtf8, All, refl, sym, ap, ◌∙◌, subst, inl, inr, arith, rules, eqb, eqb-true}
+use Rattle.std.proofs.Common.{◌≡◌, ℕ, suc, ◌+◌, ◌-◌, ◌<◌, Bool, true, cond, List, [], ◌∷◌, length, take, drop, get_or, not, IsUtf8, refl, sym, ap, ◌∙◌, subst, inl, inr, arith}
 use Rattle.std.specs.Prelude.{filter}
-use Rattle.std.specs.List.{prefix_len, position_or_len, before_first, after_first, slice_split, onto_first}
+use Rattle.std.specs.List.{prefix_len, position_or_len, slice_split}
 use Rattle.std.specs.Str.{IsCharBoundary}
 use Rattle.std.proofs.lemmas.Bool.{cases_Bool, cases_lt}
 use Rattle.std.proofs.lemmas.Bool.Decides.{nat_tests}
 use Rattle.std.proofs.lemmas.List.{take_all, drop_all, drop_more, length-take-le}
-use Rattle.std.proofs.lemmas.List.Sums.{prefix_len-le-length, prefix_len-drop_no, prefix_len-drop_all, prefix_len_stops, prefix_len_passes, passes_at_first, fails_before_first, split_at_first}
+use Rattle.std.proofs.lemmas.List.Sums.{prefix_len-le-length, prefix_len-drop_no, prefix_len-drop_all, prefix_len_stops, passes_at_first, fails_before_first}
 use Rattle.std.proofs.lemmas.List.Splits.{slice_split-cons_yes, slice_split_first, slice_split_none}
-use Rattle.std.proofs.lemmas.Str.{IsCharBoundary-before_ascii, IsCharBoundary-end, IsCharBoundary-after_ascii, IsCharBoundary-start}
+use Rattle.std.proofs.lemmas.Str.{IsCharBoundary-before_ascii, IsCharBoundary-end}
 use Rattle.tk_sequences.specs.Reading.{fields}
 use Rattle.tk_sequences.specs.Words.{is_separator, is_some_text}
+use Rattle.tk_sequences.proofs.PieceLemmas.{front_boundary}
 
 separator_low : (byte : ℕ) → is_separator byte ≡ true → byte < 128
 separator_low byte is = grind (arith, nat_tests)
@@ -40,15 +41,7 @@ skipped text = elim (cases_lt (prefix_len is_separator text) (length text)) [
 
 -- a text may be cut there
 pub skip_boundary : (text : List ℕ) → IsUtf8 text → IsCharBoundary text (prefix_len is_separator text)
-skip_boundary text utf8 = by (prefix_len is_separator text) refl
-  where
-    by : (n : ℕ) → prefix_len is_separator text ≡ n → IsCharBoundary text n
-    by zero is = IsCharBoundary-start text utf8
-    by (suc n) is =
-        let within = prefix_len-le-length is_separator text in
-        let inside : n < length text = omega arith in
-        let before : n < prefix_len is_separator text = omega arith in
-        subst (IsCharBoundary text) (omega arith) (IsCharBoundary-after_ascii text n utf8 inside (separator_low (get_or text n 0) (prefix_len_passes is_separator text n 0 before)))
+skip_boundary = front_boundary is_separator separator_low
 
 pub stop_boundary : (text : List ℕ) → IsUtf8 text → IsCharBoundary text (position_or_len is_separator text)
 stop_boundary text utf8 = elim (cases_lt (position_or_len is_separator text) (length text)) [

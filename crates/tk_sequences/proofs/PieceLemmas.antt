@@ -30,16 +30,20 @@ patterns_behind-onto front pattern (Err fault) = refl
 white_low : (byte : ℕ) → is_white byte ≡ true → byte < 128
 white_low byte is = grind (arith, nat_tests)
 
-pub white_boundary : (text : List ℕ) → IsUtf8 text → IsCharBoundary text (prefix_len is_white text)
-white_boundary text utf8 = by (prefix_len is_white text) refl
+-- a text may be cut behind bytes that stand for characters of their own
+pub front_boundary : (test : ℕ → Bool) → ((byte : ℕ) → test byte ≡ true → byte < 128) → (text : List ℕ) → IsUtf8 text → IsCharBoundary text (prefix_len test text)
+front_boundary test low text utf8 = by (prefix_len test text) refl
   where
-    by : (n : ℕ) → prefix_len is_white text ≡ n → IsCharBoundary text n
+    by : (n : ℕ) → prefix_len test text ≡ n → IsCharBoundary text n
     by zero is = IsCharBoundary-start text utf8
     by (suc n) is =
-        let within = prefix_len-le-length is_white text in
+        let within = prefix_len-le-length test text in
         let inside : n < length text = omega arith in
-        let before : n < prefix_len is_white text = omega arith in
-        subst (IsCharBoundary text) (omega arith) (IsCharBoundary-after_ascii text n utf8 inside (white_low (get_or text n 0) (prefix_len_passes is_white text n 0 before)))
+        let before : n < prefix_len test text = omega arith in
+        subst (IsCharBoundary text) (omega arith) (IsCharBoundary-after_ascii text n utf8 inside (low (get_or text n 0) (prefix_len_passes test text n 0 before)))
+
+pub white_boundary : (text : List ℕ) → IsUtf8 text → IsCharBoundary text (prefix_len is_white text)
+white_boundary = front_boundary is_white white_low
 
 pub white-skip : (whole : List ℕ) (room : ℕ) (text : List ℕ) → patterns_from whole Between room text ≡ patterns_from whole Between room (drop (prefix_len is_white text) text)
 white-skip whole room [] = refl

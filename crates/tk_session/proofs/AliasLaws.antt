@@ -11,7 +11,7 @@ use Rattle.std.proofs.lemmas.Str.{is_utf8-from_IsUtf8, IsUtf8-from_is_utf8, IsUt
 use Rattle.tk_alias.specs.declared.service.ServiceKind.{ServiceKind}
 use Rattle.tk_alias.specs.declared.service.ServiceKind.TheVariants.{Const, Upper, Table, Sum, Fail}
 use Rattle.tk_route.specs.declared.fault.LineFault.{LineFault}
-use Rattle.tk_route.specs.declared.fault.LineFault.TheVariants.{BadLine, TooManyApps, NameTaken, TimeBack, NoApp, Started, Ended, Broken, RectOverlap}
+use Rattle.tk_route.specs.declared.fault.LineFault.TheVariants.{BadLine, NameTaken}
 use Rattle.tk_route.specs.declared.fault.LineFault.TheVariants as faults
 use Rattle.tk_session.specs.declared.session.AliasLine.{AliasLine}
 use Rattle.tk_alias.specs.Names.{is_command_name, is_printing}
@@ -191,14 +191,7 @@ alias_hindrance-may aliases name may =
 pub alias_hindrance-hinders : (fault : LineFault) (aliases : List AliasLine) (name : List ℕ) → HindersAlias fault aliases name → alias_hindrance aliases name ≡ Some fault
 alias_hindrance-hinders BadLine aliases name h = rw (le-leb 64 (length aliases) h) refl
 alias_hindrance-hinders NameTaken aliases name h = rw (lt-leb 64 (length aliases) h.0, (is_served-Decides name aliases).1 h.1) refl
-alias_hindrance-hinders TooManyApps aliases name h = absurd h
-alias_hindrance-hinders TimeBack aliases name h = absurd h
-alias_hindrance-hinders NoApp aliases name h = absurd h
-alias_hindrance-hinders RectOverlap aliases name h = absurd h
-alias_hindrance-hinders Started aliases name h = absurd h
-alias_hindrance-hinders Ended aliases name h = absurd h
-alias_hindrance-hinders Broken aliases name h = absurd h
-alias_hindrance-hinders faults.Overlap aliases name h = absurd h
+alias_hindrance-hinders fault aliases name h = absurd h
 
 -- what the test answers holds
 abbrev pub JudgedAlias : List AliasLine → List ℕ → Option LineFault → Type 0

@@ -16,7 +16,7 @@ use Rattle.tk_route.specs.Refusals.{Covers, IsFirst, IsInRange as IsLineInRange,
 use Rattle.tk_route.specs.declared.line.HostLine.{HostLine}
 use Rattle.tk_route.specs.declared.line.HostLine.TheVariants.{Move, Press, Release, Keydown, Keyup, Focus, Rect as Placed}
 use Rattle.tk_route.specs.declared.fault.LineFault.{LineFault}
-use Rattle.tk_route.specs.declared.fault.LineFault.TheVariants.{BadLine, TooManyApps, NameTaken, TimeBack, NoApp, Started, Ended, Broken, RectOverlap}
+use Rattle.tk_route.specs.declared.fault.LineFault.TheVariants.{TimeBack, NoApp, RectOverlap}
 use Rattle.tk_route.specs.declared.fault.LineFault.TheVariants as faults
 use Rattle.tk_session.specs.declared.screen.Screen.{Screen}
 use Rattle.tk_session.specs.declared.session.AppBlock.{AppBlock}
@@ -307,13 +307,7 @@ event_hindrance-hinders RectOverlap apps told event h =
       false_from_ne_true (names_nobody (rects_at apps told) event.line) h.1,
       h.2,
     ) refl
-event_hindrance-hinders BadLine apps told event h = absurd h
-event_hindrance-hinders TooManyApps apps told event h = absurd h
-event_hindrance-hinders NameTaken apps told event h = absurd h
-event_hindrance-hinders faults.Overlap apps told event h = absurd h
-event_hindrance-hinders Started apps told event h = absurd h
-event_hindrance-hinders Ended apps told event h = absurd h
-event_hindrance-hinders Broken apps told event h = absurd h
+event_hindrance-hinders fault apps told event h = absurd h
 
 -- what the test answers holds
 abbrev pub JudgedEvent : List AppBlock → List EventLine → EventLine → Option LineFault → Type 0

@@ -8,7 +8,7 @@ use Rattle.tk_base.specs.declared.rect.Rect.{Rect}
 use Rattle.tk_route.specs.Screen.{shares_pixel}
 use Rattle.tk_session.specs.declared.session.AppBlock.{AppBlock}
 use Rattle.tk_route.specs.declared.fault.LineFault.{LineFault}
-use Rattle.tk_route.specs.declared.fault.LineFault.TheVariants.{BadLine, TooManyApps, NameTaken, TimeBack, NoApp, Started, Ended, Broken, RectOverlap}
+use Rattle.tk_route.specs.declared.fault.LineFault.TheVariants.{TooManyApps, NameTaken}
 use Rattle.tk_route.specs.declared.fault.LineFault.TheVariants as faults
 use Rattle.tk_session.specs.Session.{IsTaken, IsCovered, Hinders, MayFollow}
 use Rattle.tk_session.specs.Reading.{is_taken, is_covered, hindrance}
@@ -39,13 +39,7 @@ hindrance-hinders NameTaken apps name rect h =
     rw (lt-leb 16 (length apps) h.0, (is_taken-Decides name apps).1 h.1) refl
 hindrance-hinders faults.Overlap apps name rect h =
     rw (lt-leb 16 (length apps) h.0, test_false (is_taken name apps) (is_taken-Decides name apps) h.1, (is_covered-Decides rect apps).1 h.2) refl
-hindrance-hinders BadLine apps name rect h = absurd h
-hindrance-hinders TimeBack apps name rect h = absurd h
-hindrance-hinders NoApp apps name rect h = absurd h
-hindrance-hinders RectOverlap apps name rect h = absurd h
-hindrance-hinders Started apps name rect h = absurd h
-hindrance-hinders Ended apps name rect h = absurd h
-hindrance-hinders Broken apps name rect h = absurd h
+hindrance-hinders fault apps name rect h = absurd h
 
 -- what the test answers holds
 abbrev pub Judged : List AppBlock → List ℕ → Rect → Option LineFault → Type 0

@@ -24,4 +24,4 @@ pub use session::{AliasLine, AppBlock, EventLine, Session};
 pub use tk_alias::{Service, ServiceKind};
 pub use tk_base::Rect;
 pub use tk_route::{HostLine, LineFault};
-pub use writing::{WritingFault, write_session};
+pub use writing::{WritingFault, key_name, write_session};

@@ -198,8 +198,8 @@ fn push_named(text: &mut Vec<u8>, word: &[u8], name: &[u8]) -> Result<(), AllocE
     push_word(text, name)
 }
 
-/// The name of the key that goes down or up.
-fn key_name(line: HostLine) -> &'static str
+/// The name of the key that goes down or up; empty for another line.
+pub fn key_name(line: HostLine) -> &'static str
     ensures { result.now ≡ key_name line }
 {
     match line {

@@ -68,21 +68,21 @@ searched_out n ns (Err place) rising found =
 
 -- ── children ──
 module _ (n : ℕ) where
-  children_above : (m : ℕ) (ws : List Window) → AllAbove number_of m ws → AllAbove itself m (child_numbers n ws)
-  children_above m [] above = tt
-  children_above m (w ∷ ws) above = by (is_child_of n w) refl (children_above m ws above.1)
+  -- what holds of the number of each window holds of those of the children
+  each_child : (all : List Window → Type 0) (of : List ℕ → Type 0) (each : ℕ → Type 0) → of [] → ((w : Window) (ws : List Window) → all (w ∷ ws) → each w.number × all ws)
+      → ((k : ℕ) (ks : List ℕ) → each k → of ks → of (k ∷ ks)) → (ws : List Window) → all ws → of (child_numbers n ws)
+  each_child all of each none parts whole [] held = none
+  each_child all of each none parts whole (w ∷ ws) held = by (is_child_of n w) refl (each_child all of each none parts whole ws (parts w ws held).1)
     where
-      by : (b : Bool) → is_child_of n w ≡ b → AllAbove itself m (child_numbers n ws) → AllAbove itself m (child_numbers n (w ∷ ws))
-      by true is rest = rw is (above.0, rest)
+      by : (b : Bool) → is_child_of n w ≡ b → of (child_numbers n ws) → of (child_numbers n (w ∷ ws))
+      by true is rest = rw is (whole w.number (child_numbers n ws) (parts w ws held).0 rest)
       by false is rest = rw is rest
 
+  children_above : (m : ℕ) (ws : List Window) → AllAbove number_of m ws → AllAbove itself m (child_numbers n ws)
+  children_above m = each_child (AllAbove number_of m) (AllAbove itself m) (λ k. m < k) tt (λ w ws held. held) (λ k ks one rest. (one, rest))
+
   children_below : (m : ℕ) (ws : List Window) → AllBelow number_of m ws → AllBelow itself m (child_numbers n ws)
-  children_below m [] below = tt
-  children_below m (w ∷ ws) below = by (is_child_of n w) refl (children_below m ws below.1)
-    where
-      by : (b : Bool) → is_child_of n w ≡ b → AllBelow itself m (child_numbers n ws) → AllBelow itself m (child_numbers n (w ∷ ws))
-      by true is rest = rw is (below.0, rest)
-      by false is rest = rw is rest
+  children_below m = each_child (AllBelow number_of m) (AllBelow itself m) (λ k. k < m) tt (λ w ws held. held) (λ k ks one rest. (one, rest))
 
   -- the children are in the order of their numbers
   pub children_rising : (ws : List Window) → IsRising number_of ws → AreRising (child_numbers n ws)

@@ -10,8 +10,7 @@ unfolding quoting
 returns-in-Some-clause-word c =
     let answer = c.args.answer.now in
     let words = words_asked c.args.question.now in
-    let table : words_of c.as_slice.result.now ≡ quoting = ap words_of c.as_slice.ensures in
-    let found : quoted quoting answer ≡ Some c.in-Some.word.now = ap (λ fronts. quoted fronts answer) (sym table) ∙ (sym c.quoted.ensures ∙ ap (option_map (λ word. word.now)) c.in-Some.is) in
+    let found : quoted quoting answer ≡ Some c.in-Some.word.now = ap (λ fronts. quoted (words_of fronts) answer) (sym c.as_slice.ensures) ∙ (sym c.quoted.ensures ∙ ap (option_map (λ word. word.now)) c.in-Some.is) in
     let other : starts_with nat_eq answer (codes "wrong # args: ") ≡ false = sym c.begins.ensures ∙ c.if-begins.false in
     c.refused_as.ensures.word ∙ (ap (refused_as words answer) (sym found) ∙ sym (ap (λ b. cond b None (refused_as words answer (quoted quoting answer))) other))
 
@@ -20,7 +19,6 @@ unfolding quoting
 returns-in-None-clause-word c =
     let answer = c.args.answer.now in
     let words = words_asked c.args.question.now in
-    let table : words_of c.as_slice.result.now ≡ quoting = ap words_of c.as_slice.ensures in
-    let found : quoted quoting answer ≡ None = ap (λ fronts. quoted fronts answer) (sym table) ∙ (sym c.quoted.ensures ∙ ap (option_map (λ word. word.now)) c.in-None.is) in
+    let found : quoted quoting answer ≡ None = ap (λ fronts. quoted (words_of fronts) answer) (sym c.as_slice.ensures) ∙ (sym c.quoted.ensures ∙ ap (option_map (λ word. word.now)) c.in-None.is) in
     let other : starts_with nat_eq answer (codes "wrong # args: ") ≡ false = sym c.begins.ensures ∙ c.if-begins.false in
     ap (refused_as words answer) (sym found) ∙ sym (ap (λ b. cond b None (refused_as words answer (quoted quoting answer))) other)

@@ -1,19 +1,18 @@
-use Rattle.std.proofs.Common.{ℕ, List, Bor, ap, arith, lit<}
+use Rattle.std.proofs.Common.{ℕ, List, ap, arith, lit<}
 use Rattle.std.proofs.lemmas.Grind.{common_steps}
-use Rattle.std.proofs.lemmas.Iterator.Consumers.{YieldsList-end, YieldsList-turn}
 use Rattle.std.proofs.lemmas.Iterator.Splits.{YieldsList-from_str_split}
 use Rattle.panels_text.specs.Texts.{lines_of}
-use Rattle.panels_text.proofs.Turns.{turn_more, turn_none}
+use Rattle.panels_text.proofs.Turns.{road_end, road_more}
 use Rattle.panels_text.proofs.rows.lines.Goals as goal
 
 pub loop-line-preserved : goal.loop-line-preserved
 loop-line-preserved c =
-    let here = turn_more (λ (x : Bor (List ℕ)). x.now) (lines_of c.args.text.now) c.loop-line.yielded c.in-Some.line (YieldsList-turn (YieldsList-from_str_split 10 c.args.text.now (lit< tt) (cc) (cc) (cc)) c.loop-line.yielded _ c.loop-line.yielded_by _ _ c.in-Some.line c.in-Some.is c.next.ensures.steps) in
+    let here = road_more (lines_of c.args.text.now) (YieldsList-from_str_split 10 c.args.text.now (lit< tt) (cc) (cc) (cc)) c.loop-line.yielded c.loop-line.yielded_by c.in-Some.line c.in-Some.is c.next.ensures.steps in
     let step = ap (λ (left : List (List ℕ)). left) here in
     grind (arith, common_steps)
 
 pub returns : goal.returns
 returns c =
-    let end = turn_none (λ (x : Bor (List ℕ)). x.now) (lines_of c.args.text.now) c.loop-line.yielded (YieldsList-end (YieldsList-from_str_split 10 c.args.text.now (lit< tt) (cc) (cc) (cc)) c.loop-line.yielded _ c.loop-line.yielded_by _ _ c.in-None.is c.next.ensures.steps) in
+    let end = road_end (lines_of c.args.text.now) (YieldsList-from_str_split 10 c.args.text.now (lit< tt) (cc) (cc) (cc)) c.loop-line.yielded c.loop-line.yielded_by c.in-None.is c.next.ensures.steps in
     let last = ap (λ (left : List (List ℕ)). left) end in
     grind (arith, common_steps)

@@ -48,18 +48,10 @@ returns-clause-turns g c =
     c.stage.ensures.turns
 
 pub returns-in_err-give-clause-cut : goal.returns-in_err-give-clause-cut
-returns-in_err-give-clause-cut g c =
-    let old = c.args.shared.now in
-    let whole = turns_given g.M.AliasMeaning.answer c.args.slice (stages_of (c.args.first ∷ c.args.second ∷ [])) (applications old.parts) in
-    on_err _ _
-    (cut_at_once c.args.slice old.turns whole c.give.new.shared.turns c.in_err-give.ensures.turns)
+returns-in_err-give-clause-cut g c = on_err _ _ (cut_at_once c.args.slice _ _ _ c.in_err-give.ensures.turns)
 
 pub returns-in_err-give-2-clause-cut : goal.returns-in_err-give-2-clause-cut
-returns-in_err-give-2-clause-cut g c =
-    let old = c.args.shared.now in
-    let whole = turns_given g.M.AliasMeaning.answer c.args.slice (stages_of (c.args.first ∷ c.args.second ∷ [])) (applications old.parts) in
-    on_err _ _
-    (cut_at_once c.args.slice old.turns whole c.give-2.new.shared.turns (c.in_err-give-2.ensures.turns ∙ c.in_ok-give.ensures.turns))
+returns-in_err-give-2-clause-cut g c = on_err _ _ (cut_at_once c.args.slice _ _ _ (c.in_err-give-2.ensures.turns ∙ c.in_ok-give.ensures.turns))
 
 pub returns-clause-cut : goal.returns-clause-cut
 returns-clause-cut g c =

@@ -1,4 +1,4 @@
-use Rattle.std.proofs.Common.{◌≡◌, ◌++◌, ◌∷◌, [], map, List, sym, ap, ◌∙◌, subst, append_assoc}
+use Rattle.std.proofs.Common.{◌++◌, ◌∷◌, [], map, List, sym, ap, ◌∙◌, subst, append_assoc}
 use Rattle.std.proofs.lemmas.Result.{on_err_weaker, on_ok_weaker}
 use Rattle.tk_app.specs.Rounds.{turns_of}
 use Rattle.tk_app.specs.Application.{Application}
@@ -9,8 +9,8 @@ use Rattle.tk_host.specs.Ready.{AllRest}
 use Rattle.tk_host.specs.Turns.{after_given, applications, stages_of, steps_given, turns_given}
 use Rattle.tk_host.proofs.Counts.{keeps_both}
 use Rattle.tk_host.proofs.Cut.{cut_as, cut_more}
-use Rattle.tk_host.proofs.Deliveries.{after_two, turns_one, turns_same}
-use Rattle.tk_host.proofs.Parts.{apps_at, rest_at}
+use Rattle.tk_host.proofs.Deliveries.{after_two, apps_after, turns_joined, turns_one, turns_same}
+use Rattle.tk_host.proofs.Parts.{rest_at}
 use Rattle.tk_host.proofs.events.deliver_twice.Goals as goal
 
 pub deliver_one-requires-2 : goal.deliver_one-requires-2
@@ -29,27 +29,18 @@ pub returns-clause-parts : goal.returns-clause-parts
 returns-clause-parts g c =
     let answer = g.M.AliasMeaning.answer in
     let apps : List (Application _) = applications c.args.shared.now.parts in
-    let mid : applications c.deliver_one.new.shared.parts ≡ after_given answer 0 (c.args.first ∷ []) apps = ap applications c.in_ok-deliver_one.ensures.parts ∙ apps_at answer (after_given answer 0 (c.args.first ∷ []) apps) in
     on_ok_weaker c.deliver_one-2.result
-    (λ done. done ∙ ap (λ there. map at_rest (after_given answer 0 (c.args.second ∷ []) there)) mid ∙ ap (λ there. map at_rest there) (after_two answer 0 c.args.first c.args.second apps)) c.deliver_one-2.ensures.parts
+    (λ done. done ∙ ap (λ there. map at_rest (after_given answer 0 (c.args.second ∷ []) there)) (apps_after answer c.args.first apps c.deliver_one.new.shared.parts c.in_ok-deliver_one.ensures.parts)
+    ∙ ap (λ there. map at_rest there) (after_two answer 0 c.args.first c.args.second apps)) c.deliver_one-2.ensures.parts
 
 pub returns-clause-turns : goal.returns-clause-turns
 returns-clause-turns g c =
     let answer = g.M.AliasMeaning.answer in
-    let slice = c.args.slice in
     let old = c.args.shared.now in
-    let apps : List (Application _) = applications old.parts in
-    let mid : applications c.deliver_one.new.shared.parts ≡ after_given answer 0 (c.args.first ∷ []) apps = ap applications c.in_ok-deliver_one.ensures.parts ∙ apps_at answer (after_given answer 0 (c.args.first ∷ []) apps) in
-    let one = c.in_ok-deliver_one.ensures.turns ∙ ap (λ ts. old.turns ++ ts) (turns_one answer slice c.args.first apps) in
+    let there = c.deliver_one.new.shared in
+    let one = c.in_ok-deliver_one.ensures in
     on_ok_weaker c.deliver_one-2.result
-    (λ told.
-    told
-    ∙ ap (λ ts. c.deliver_one.new.shared.turns ++ ts) (turns_one answer slice c.args.second (applications c.deliver_one.new.shared.parts))
-    ∙ ap (λ there. c.deliver_one.new.shared.turns ++ turns_of slice (steps_given answer 0 (c.args.second ∷ []) there)) mid
-    ∙ ap (λ ts. ts ++ turns_of slice (steps_given answer 0 (c.args.second ∷ []) (after_given answer 0 (c.args.first ∷ []) apps))) one
-    ∙ append_assoc old.turns (turns_of slice (steps_given answer 0 (c.args.first ∷ []) apps)) (turns_of slice (steps_given answer 0 (c.args.second ∷ []) (after_given answer 0 (c.args.first ∷ []) apps)))
-    ∙ ap (λ ts. old.turns ++ ts) (sym (turns_same answer slice c.args.first c.args.second apps c.requires.same)))
-    c.deliver_one-2.ensures.turns
+    (λ told. told ∙ turns_joined answer c.args.slice c.args.first c.args.second old there c.requires.same one.turns (apps_after answer c.args.first (applications old.parts) there.parts one.parts)) c.deliver_one-2.ensures.turns
 
 pub returns-in_err-deliver_one-clause-cut : goal.returns-in_err-deliver_one-clause-cut
 returns-in_err-deliver_one-clause-cut g c =
@@ -72,18 +63,12 @@ returns-clause-cut g c =
     let answer = g.M.AliasMeaning.answer in
     let slice = c.args.slice in
     let old = c.args.shared.now in
-    let apps : List (Application _) = applications old.parts in
     let there : Applications _ = c.deliver_one.new.shared in
-    let mid : applications there.parts ≡ after_given answer 0 (c.args.first ∷ []) apps = ap applications c.in_ok-deliver_one.ensures.parts ∙ apps_at answer (after_given answer 0 (c.args.first ∷ []) apps) in
-    let one = c.in_ok-deliver_one.ensures.turns ∙ ap (λ ts. old.turns ++ ts) (turns_one answer slice c.args.first apps) in
+    let one = c.in_ok-deliver_one.ensures in
     on_err_weaker c.deliver_one-2.result
     (λ cut. cut_as slice (there.turns ++ turns_given answer slice (stages_of (c.args.second ∷ [])) (applications there.parts))
-    (old.turns ++ turns_given answer slice (stages_of (c.args.first ∷ c.args.second ∷ [])) apps) c.deliver_one-2.new.shared.turns
-    (ap (λ ts. there.turns ++ ts) (turns_one answer slice c.args.second (applications there.parts))
-    ∙ ap (λ apps. there.turns ++ turns_of slice (steps_given answer 0 (c.args.second ∷ []) apps)) mid
-    ∙ ap (λ ts. ts ++ turns_of slice (steps_given answer 0 (c.args.second ∷ []) (after_given answer 0 (c.args.first ∷ []) apps))) one
-    ∙ append_assoc old.turns (turns_of slice (steps_given answer 0 (c.args.first ∷ []) apps)) (turns_of slice (steps_given answer 0 (c.args.second ∷ []) (after_given answer 0 (c.args.first ∷ []) apps)))
-    ∙ ap (λ ts. old.turns ++ ts) (sym (turns_same answer slice c.args.first c.args.second apps c.requires.same))) cut)
+    (old.turns ++ turns_given answer slice (stages_of (c.args.first ∷ c.args.second ∷ [])) (applications old.parts)) c.deliver_one-2.new.shared.turns
+    (turns_joined answer slice c.args.first c.args.second old there c.requires.same one.turns (apps_after answer c.args.first (applications old.parts) there.parts one.parts)) cut)
     c.deliver_one-2.ensures.cut
 
 pub returns-in_err-deliver_one-clause-keeps : goal.returns-in_err-deliver_one-clause-keeps

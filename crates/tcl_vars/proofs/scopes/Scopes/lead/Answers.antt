@@ -1,16 +1,15 @@
 -- Each turn follows one link, to an earlier frame.
-use Rattle.std.proofs.Common.{◌≡◌, ◌<◌, ◌∙◌, sym, ap, subst, option_copied, arith}
+use Rattle.std.proofs.Common.{◌≡◌, ◌<◌, ◌∙◌, sym, ap, option_copied, arith}
 use Rattle.tcl_vars.specs.Shown.{shown}
-use Rattle.tcl_vars.specs.Links.{FramesDescend}
 use Rattle.tcl_vars.specs.Store.{link_of, indexed, led}
-use Rattle.tcl_vars.proofs.BelowLemmas.{LinksDescend-frames}
+use Rattle.tcl_vars.proofs.BelowLemmas.{links_descend}
 use Rattle.tcl_vars.proofs.LinkLemmas.{led-link, led-nowhere, led-here}
 use Rattle.tcl_vars.proofs.scopes.Scopes.lead.Goals as goal
 
 followed : (c : goal.In_ok-place) → (c.in_ok-place.place.frame < c.loop-frame.place.frame)
     × (led c.args.self.now c.in_ok-place.place.frame (shown c.in_ok-place.place) ≡ led c.args.self.now c.loop-frame.place.frame (shown c.loop-frame.place))
 followed c =
-    led-link c.args.self.now (LinksDescend-frames c.args.self.now (subst FramesDescend c.self.view_is c.self.invariant.descending)) (shown c.loop-frame.place) (c.in-Some.frame, c.in-Some.name.now)
+    led-link c.args.self.now (links_descend c.self.view_is c.self.invariant.descending) (shown c.loop-frame.place) (c.in-Some.frame, c.in-Some.name.now)
     (sym (c.in-Some.ensures.link ∙ ap link_of c.content-content.ensures))
     (shown c.in_ok-place.place)
     (sym (c.in_ok-place.ensures.place ∙ ap (λ p. indexed p (option_copied c.loop-frame.place.element)) c.place_of.ensures.place))
@@ -19,7 +18,7 @@ pub returns-in_err-place : goal.returns-in_err-place
 returns-in_err-place c =
     rw c.from_residual.ensures
     (sym c.loop-frame.invariant.leads
-    ∙ led-nowhere c.args.self.now (LinksDescend-frames c.args.self.now (subst FramesDescend c.self.view_is c.self.invariant.descending)) (shown c.loop-frame.place) (c.in-Some.frame, c.in-Some.name.now)
+    ∙ led-nowhere c.args.self.now (links_descend c.self.view_is c.self.invariant.descending) (shown c.loop-frame.place) (c.in-Some.frame, c.in-Some.name.now)
     (sym (c.in-Some.ensures.link ∙ ap link_of c.content-content.ensures))
     (sym (c.in_err-place.ensures.place ∙ ap (λ p. indexed p (option_copied c.loop-frame.place.element)) c.place_of.ensures.place)))
 

@@ -5,9 +5,7 @@ use Rattle.tcl_vars.specs.Shown.{shown}
 use Rattle.tcl_vars.specs.Store.{is_plain_name, holds_value, variable_place, with_content}
 use Rattle.tcl_vars.proofs.MadeLemmas.{with_link-bad, with_link-exists, with_link-ok, with_link-full}
 use Rattle.tcl_vars.proofs.LawLemmas.{length-with_link}
-use Rattle.std.proofs.Common.{subst}
-use Rattle.tcl_vars.specs.Links.{FramesDescend}
-use Rattle.tcl_vars.proofs.BelowLemmas.{LinksDescend-frames}
+use Rattle.tcl_vars.proofs.BelowLemmas.{links_descend}
 use Rattle.tcl_vars.proofs.LeadLemmas.{variable_in-with_link}
 use Rattle.tcl_vars.proofs.scopes.Scopes.link.Goals as goal
 
@@ -46,5 +44,5 @@ returns-then-branch-clause-levels c =
 
 pub returns-then-branch-clause-leads : goal.returns-then-branch-clause-leads
 returns-then-branch-clause-leads c =
-    variable_in-with_link c.args.self.now (LinksDescend-frames c.args.self.now (subst FramesDescend c.self.view_is c.self.invariant.descending)) c.args.frame c.requires.level
+    variable_in-with_link c.args.self.now (links_descend c.self.view_is c.self.invariant.descending) c.args.frame c.requires.level
     c.args.name.now c.args.to_frame c.args.to_name.now c.requires.earlier c.give.new.self (returns-then-branch-clause-ok c)

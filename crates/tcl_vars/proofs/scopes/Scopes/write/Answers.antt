@@ -1,9 +1,8 @@
 -- A place whose variable is no link is set in its own frame.
-use Rattle.std.proofs.Common.{Err, Ok, rules, subst}
+use Rattle.std.proofs.Common.{Err, Ok, rules}
 use Rattle.std.proofs.lemmas.Result.{err_from_is_err_and}
 use Rattle.tcl_vars.specs.Shown.{shown}
-use Rattle.tcl_vars.specs.Links.{FramesDescend}
-use Rattle.tcl_vars.proofs.BelowLemmas.{LinksDescend-frames}
+use Rattle.tcl_vars.proofs.BelowLemmas.{links_descend}
 use Rattle.tcl_vars.proofs.LawLemmas.{text_at-with_text_at}
 use Rattle.tcl_vars.proofs.StoreLemmas.{with_text_at-direct}
 use Rattle.tcl_vars.proofs.scopes.Scopes.write.Goals as goal
@@ -25,6 +24,5 @@ returns-in-None c =
       ok = set;
       refused = tt;
       err = tt;
-      read = text_at-with_text_at c.args.self.now (LinksDescend-frames c.args.self.now (subst FramesDescend c.self.view_is c.self.invariant.descending)) (shown c.args.place) c.requires.level
-          c.args.value c.put.new.self set;
+      read = text_at-with_text_at c.args.self.now (links_descend c.self.view_is c.self.invariant.descending) (shown c.args.place) c.requires.level c.args.value c.put.new.self set;
     }

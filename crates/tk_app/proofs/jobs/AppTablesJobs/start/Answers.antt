@@ -1,23 +1,13 @@
-use Rattle.std.proofs.Common.{ap}
 use Rattle.tk_panel.specs.Shared.{panel_of}
-use Rattle.tk_panel.proofs.Others.{left_same}
 use Rattle.tk_commands.specs.Course.{job_started as panel_started}
-use Rattle.tk_app.specs.Seen.{meanings}
-use Rattle.tk_app.proofs.Shows.{panel_shown}
+use Rattle.tk_app.proofs.Shows.{panel_shown, seen_at, view_left}
 use Rattle.tk_app.proofs.jobs.AppTablesJobs.start.Goals as goal
 
 pub returns-in_err-started-clause-left : goal.returns-in_err-started-clause-left
-returns-in_err-started-clause-left g c =
-    let view = c.args.self.now in
-    ap (λ l. (l, view.aliases.now)) (left_same view.slot view.tables.ghost_name view.tables.now c.start.new.tables c.start.ensures.others)
+returns-in_err-started-clause-left g c = view_left c.start.ensures.others
 
 pub returns-clause-left : goal.returns-clause-left
-returns-clause-left g c =
-    let view = c.args.self.now in
-    ap (λ l. (l, view.aliases.now)) (left_same view.slot view.tables.ghost_name view.tables.now c.start.new.tables c.start.ensures.others)
+returns-clause-left g c = view_left c.start.ensures.others
 
 pub returns-clause-ok : goal.returns-clause-ok
-returns-clause-ok g c =
-    let view = c.args.self.now in
-    panel_shown (record { serves = meanings g.M.AliasMeaning.answer view.aliases.now; panel = panel_of view.slot view.tables.now }) (panel_of view.slot c.start.new.tables) c.in_ok-started.started
-    (panel_started (panel_of view.slot view.tables.now) c.args._scopes.now c.args.job) c.start.ensures.others.clock (c.in_ok-started.ensures.own c.args._scopes.now)
+returns-clause-ok g c = let view = c.args.self.now in panel_shown (seen_at g.M.AliasMeaning.answer view.aliases.now view.slot view.tables.now) (panel_started (panel_of view.slot view.tables.now) c.args._scopes.now c.args.job) c.start.ensures.others.clock (c.in_ok-started.ensures.own c.args._scopes.now)

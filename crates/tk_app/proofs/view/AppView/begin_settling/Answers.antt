@@ -7,14 +7,10 @@ use Rattle.tk_app.proofs.Views.{one_changed, one_was, slot_held}
 use Rattle.tk_app.proofs.view.AppView.begin_settling.Goals as goal
 
 pub index_mut-runner-requires : goal.index_mut-runner-requires
-index_mut-runner-requires g c =
-    let lt = in_range c.shared.inside.tables c.shared.inside.runners.items c.args.self.now.shared.now.parts c.args.self.now.slot (ap (λ (h : Applications _). h.parts) c.shared.view_is) c.args.self.now.held in
-    omega (arith, lt)
+index_mut-runner-requires g c = let lt = in_range _ _ c.shared.view_is c.args.self.now.held in omega (arith, lt)
 
 pub invariant_of-self : goal.invariant_of-self
-invariant_of-self g c =
-    let old = c.shared.inside in
-    record { held = slot_held c.args.self.now.slot old.tables old.tables old.runners.items c.begin.new.self c.args.self.now.shared.now.parts (ap (λ (h : Applications _). h.parts) c.shared.view_is) c.args.self.now.held }
+invariant_of-self g c = record { held = slot_held _ _ _ _ c.shared.view_is c.args.self.now.held refl }
 
 pub returns-clause-begun : goal.returns-clause-begun
 returns-clause-begun g c =
@@ -22,7 +18,7 @@ returns-clause-begun g c =
     let old = c.shared.inside in
     let r : Program _ = c.index_mut-runner.result.now in
     let after : Program _ = c.begin.new.self in
-    let lt : i < length old.runners.items = in_range c.shared.inside.tables c.shared.inside.runners.items c.args.self.now.shared.now.parts c.args.self.now.slot (ap (λ (h : Applications _). h.parts) c.shared.view_is) c.args.self.now.held in
+    let lt : i < length old.runners.items = in_range _ _ c.shared.view_is c.args.self.now.held in
     let begun : after ≡ record r { work = settling_as r.state r.work } = c.in_ok-begin.ensures.ok in
     let held : List (Part _) → Applications _ = λ parts. record { moment = old.tables.clock; parts = parts; turns = old.turns.items; refused = old.refused } in
     let parts = parts_from 0 old.tables old.runners.items in

@@ -4,10 +4,33 @@ use Rattle.tk_tree.specs.Create.{with_window}
 use Rattle.tk_tree.specs.Own.{at_path, is_full}
 use Rattle.tk_tree.specs.Shared.{own_of}
 use Rattle.tk_tree.specs.Window.{number_of}
-use Rattle.tk_tree.proofs.Added.{inserted, undone}
+use Rattle.tk_tree.proofs.Added.{Inserted, inserted, undone}
 use Rattle.tk_tree.proofs.Looks.{number_is, next_unused}
 use Rattle.tk_tree.proofs.Rising.{adds_rising}
 use Rattle.tk_tree.proofs.windows.Windows.insert.Goals as goal
+use Rattle.tk_tree.proofs.windows.Windows.insert.Goals.{After-insert_reserved}
+
+-- what there is with the window
+done : (c : After-insert_reserved)
+    → Inserted c.add.new.self c.self.inside.slab.slots c.insert_reserved.new.self.slots c.self.inside.counters.entries c.set_counter.new.counters.entries c.args.owner c.args.path.now c.args.kind c.args.parent
+done c =
+    inserted c.self.inside.index c.add.new.self c.self.inside.slab.slots c.reserve.new.self.slots c.insert_reserved.new.self.slots c.self.inside.counters.entries c.set_counter.new.counters.entries c.args.owner c.vacant_key-key.result c.reserve.new.self.vacant_key c.insert_reserved.result c.counter_of-number.result.next c.counter_of-number.result.count c.args.path.now c.as_str.result.now c.args.kind c.args.parent c.in_ok-window.window
+    c.self.invariant
+    (ap (λ s. s.slots) c.in_ok-reserve.ensures.rest_kept)
+    c.in_ok-add.ensures.ok
+    c.as_str.ensures.bytes
+    c.in_ok-window.ensures
+    c.vacant_key-key.ensures.value
+    c.insert_reserved.ensures.key
+    c.vacant_key-key.ensures.vacant
+    c.insert_reserved.ensures.updates.changed
+    c.insert_reserved.ensures.updates.others
+    c.in-Ok.ensures.ok
+    c.counter_of-number.ensures.next
+    c.counter_of-number.ensures.count
+    (subst (λ held. is_full (own_of c.args.owner held) ≡ false) (sym c.self.view_is) c.requires.room)
+    (subst (λ held. MatchOption c.args.parent (Unit {0}) (λ number. number < (own_of c.args.owner held).next_number)) (sym c.self.view_is) c.requires.older)
+    (subst (λ held. at_path c.args.path.now (own_of c.args.owner held) ≡ None) (sym c.self.view_is) c.requires.new)
 
 pub remove-requires : goal.remove-requires
 remove-requires c =
@@ -38,67 +61,10 @@ invariant_of-self-in-Err c =
     (subst (λ held. at_path c.args.path.now (own_of c.args.owner held) ≡ None) (sym c.self.view_is) c.requires.new)
 
 pub invariant_of-self-2 : goal.invariant_of-self-2
-invariant_of-self-2 c =
-    let done =
-    inserted c.self.inside.index c.add.new.self c.self.inside.slab.slots c.reserve.new.self.slots c.insert_reserved.new.self.slots c.self.inside.counters.entries c.set_counter.new.counters.entries c.args.owner c.vacant_key-key.result c.reserve.new.self.vacant_key c.insert_reserved.result c.counter_of-number.result.next c.counter_of-number.result.count c.args.path.now c.as_str.result.now c.args.kind c.args.parent c.in_ok-window.window
-    c.self.invariant
-    (ap (λ s. s.slots) c.in_ok-reserve.ensures.rest_kept)
-    c.in_ok-add.ensures.ok
-    c.as_str.ensures.bytes
-    c.in_ok-window.ensures
-    c.vacant_key-key.ensures.value
-    c.insert_reserved.ensures.key
-    c.vacant_key-key.ensures.vacant
-    c.insert_reserved.ensures.updates.changed
-    c.insert_reserved.ensures.updates.others
-    c.in-Ok.ensures.ok
-    c.counter_of-number.ensures.next
-    c.counter_of-number.ensures.count
-    (subst (λ held. is_full (own_of c.args.owner held) ≡ false) (sym c.self.view_is) c.requires.room)
-    (subst (λ held. MatchOption c.args.parent (Unit {0}) (λ number. number < (own_of c.args.owner held).next_number)) (sym c.self.view_is) c.requires.older)
-    (subst (λ held. at_path c.args.path.now (own_of c.args.owner held) ≡ None) (sym c.self.view_is) c.requires.new)
-    in done.kept
+invariant_of-self-2 c = (done c).kept
 
 pub returns-clause-ok : goal.returns-clause-ok
-returns-clause-ok c =
-    let done =
-    inserted c.self.inside.index c.add.new.self c.self.inside.slab.slots c.reserve.new.self.slots c.insert_reserved.new.self.slots c.self.inside.counters.entries c.set_counter.new.counters.entries c.args.owner c.vacant_key-key.result c.reserve.new.self.vacant_key c.insert_reserved.result c.counter_of-number.result.next c.counter_of-number.result.count c.args.path.now c.as_str.result.now c.args.kind c.args.parent c.in_ok-window.window
-    c.self.invariant
-    (ap (λ s. s.slots) c.in_ok-reserve.ensures.rest_kept)
-    c.in_ok-add.ensures.ok
-    c.as_str.ensures.bytes
-    c.in_ok-window.ensures
-    c.vacant_key-key.ensures.value
-    c.insert_reserved.ensures.key
-    c.vacant_key-key.ensures.vacant
-    c.insert_reserved.ensures.updates.changed
-    c.insert_reserved.ensures.updates.others
-    c.in-Ok.ensures.ok
-    c.counter_of-number.ensures.next
-    c.counter_of-number.ensures.count
-    (subst (λ held. is_full (own_of c.args.owner held) ≡ false) (sym c.self.view_is) c.requires.room)
-    (subst (λ held. MatchOption c.args.parent (Unit {0}) (λ number. number < (own_of c.args.owner held).next_number)) (sym c.self.view_is) c.requires.older)
-    (subst (λ held. at_path c.args.path.now (own_of c.args.owner held) ≡ None) (sym c.self.view_is) c.requires.new)
-    in done.own ∙ ap (λ held. with_window c.args.path.now c.args.kind c.args.parent (own_of c.args.owner held)) c.self.view_is
+returns-clause-ok c = (done c).own ∙ ap (λ held. with_window c.args.path.now c.args.kind c.args.parent (own_of c.args.owner held)) c.self.view_is
 
 pub returns-clause-others : goal.returns-clause-others
-returns-clause-others c =
-    let done =
-    inserted c.self.inside.index c.add.new.self c.self.inside.slab.slots c.reserve.new.self.slots c.insert_reserved.new.self.slots c.self.inside.counters.entries c.set_counter.new.counters.entries c.args.owner c.vacant_key-key.result c.reserve.new.self.vacant_key c.insert_reserved.result c.counter_of-number.result.next c.counter_of-number.result.count c.args.path.now c.as_str.result.now c.args.kind c.args.parent c.in_ok-window.window
-    c.self.invariant
-    (ap (λ s. s.slots) c.in_ok-reserve.ensures.rest_kept)
-    c.in_ok-add.ensures.ok
-    c.as_str.ensures.bytes
-    c.in_ok-window.ensures
-    c.vacant_key-key.ensures.value
-    c.insert_reserved.ensures.key
-    c.vacant_key-key.ensures.vacant
-    c.insert_reserved.ensures.updates.changed
-    c.insert_reserved.ensures.updates.others
-    c.in-Ok.ensures.ok
-    c.counter_of-number.ensures.next
-    c.counter_of-number.ensures.count
-    (subst (λ held. is_full (own_of c.args.owner held) ≡ false) (sym c.self.view_is) c.requires.room)
-    (subst (λ held. MatchOption c.args.parent (Unit {0}) (λ number. number < (own_of c.args.owner held).next_number)) (sym c.self.view_is) c.requires.older)
-    (subst (λ held. at_path c.args.path.now (own_of c.args.owner held) ≡ None) (sym c.self.view_is) c.requires.new)
-    in λ other differ. done.others other differ ∙ ap (own_of other) c.self.view_is
+returns-clause-others c = λ other differ. (done c).others other differ ∙ ap (own_of other) c.self.view_is

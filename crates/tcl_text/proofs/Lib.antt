@@ -47,5 +47,7 @@ pub mod WrittenIntegers
 pub mod CommandExamples
 pub mod LengthLemmas
 pub mod SeparatorLemmas
+pub mod GlobLetters
+pub mod GlobMasks
 pub mod GlobPieces
 pub mod GlobPlaces

@@ -1,5 +1,5 @@
 -- Steps. What the steps of a glob search say to one another.
-use Rattle.std.specs.Prelude.{◌≡◌, ◌≢◌, ◌+◌, ◌<◌, ◌≤◌, ℕ, Bool, not, ◌||◌, ◌&&◌, ◌==◌, if◌then◌else◌, true, false, List, [], ◌∷◌, ◌++◌, take, drop, length, get_or, slice_index}
+use Rattle.std.specs.Prelude.{◌≡◌, ◌≢◌, ◌+◌, ◌<◌, ◌≤◌, ◌⊎◌, ℕ, Bool, not, ◌||◌, ◌&&◌, ◌==◌, if◌then◌else◌, true, false, List, [], ◌∷◌, ◌++◌, take, drop, length, get_or, nat_lt, slice_index}
 use Rattle.std.specs.Int.{bit_at}
 use Rattle.std.specs.List.{list_all}
 use Rattle.std.specs.Str.{chars}
@@ -58,28 +58,46 @@ pub record IsBehindDead (pattern text left : List ℕ) : Type 0 where
 pub record AreDead (pattern window : List ℕ) (alive : List Bool) : Type 0 where
   pub none : (place : ℕ) → place < length alive → get_or alive place false ≡ false → (behind : List ℕ) → GlobMatches pattern (drop place (window ++ behind)) → ⊥
 
--- each byte has a mask, whose bits tell which of so many of the pattern's parts allow it: wherever the pattern matches, the mask of a byte has the
--- bit of its place
-pub record Allows (pattern masks : List ℕ) (count : ℕ) : Type 0 where
-  pub told : (text : List ℕ) → GlobMatches pattern text → (place : ℕ) → place < count → slice_index text place < 256
-      → bit_at (slice_index masks (slice_index text place)) place ≡ 1
+-- places that are tried at once in a whole text: the pattern doesn't match at the dead ones
+pub record AreDeadIn (pattern text : List ℕ) (alive : List Bool) : Type 0 where
+  pub none : (place : ℕ) → place < length alive → get_or alive place false ≡ false → GlobMatches pattern (drop place text) → ⊥
 
--- the bit is set in the masks of the bytes for which the test holds, and nothing else has changed
-abbrev pub Marks : (ℕ → Bool) → ℕ → List ℕ → List ℕ → Type 0
-Marks test bit before after =
-    (byte : ℕ) → byte < 256 → (place : ℕ)
-    → bit_at (slice_index after byte) place ≡ (if place == bit && test byte then 1 else bit_at (slice_index before byte) place)
+-- places die alone at which the pattern doesn't match, whatever stands behind the letters
+abbrev pub KeepsMatching : List ℕ → List ℕ → List Bool → List Bool → Type 0
+KeepsMatching pattern letters before after =
+    (place : ℕ) → place < length before → get_or after place false ≡ false
+    → (get_or before place false ≡ false) ⊎ ((behind : List ℕ) → GlobMatches pattern (drop place (letters ++ behind)) → ⊥)
 
--- the bit is set in the masks of the bytes that the pattern's first part allows, and no other bit has changed
-pub record MarksAllowed (pattern : List ℕ) (bit : ℕ) (before after : List ℕ) : Type 0 where
-  pub noted : (byte : ℕ) → byte < 256 → (rest : List ℕ) → AllowsFirst pattern byte rest → bit_at (slice_index after byte) bit ≡ 1
-  pub others : (byte : ℕ) → byte < 256 → (place : ℕ) → place ≢ bit → bit_at (slice_index after byte) place ≡ bit_at (slice_index before byte) place
+-- the letter at the place isn't below the number
+abbrev pub IsHigh : ℕ → List ℕ → ℕ → Type 0
+IsHigh low letters at = (at < length letters) × (low ≤ slice_index letters at)
 
--- each of so many parts allows its byte, from the place on, as the masks tell
-abbrev pub AllowsAt : List ℕ → ℕ → List ℕ → ℕ → Type 0
-AllowsAt masks parts bytes place = (part : ℕ) → part < parts → bit_at (slice_index masks (slice_index bytes (place + part))) part ≡ 1
+-- the mask of the letter at the place: one of those of the letters below the number, or the place's
+abbrev pub mask_at : ℕ → List ℕ → List ℕ → List ℕ → ℕ → ℕ
+mask_at below low letters high at = if nat_lt (slice_index letters at) below then slice_index low (slice_index letters at) else slice_index high at
 
--- places at which each part allows its byte live on, if they lived
-abbrev pub KeepsAllowed : List ℕ → ℕ → List ℕ → List Bool → List Bool → Type 0
-KeepsAllowed masks parts bytes before after =
-    (place : ℕ) → place < length before → AllowsAt masks parts bytes place → get_or after place false ≡ get_or before place false
+-- some places have a letter and its mask, whose bits tell which of so many of the pattern's parts allow it: wherever the pattern matches, the mask of a
+-- letter of the text has the bit of the place at which it stands there
+pub record Allows (pattern : List ℕ) (Has : ℕ → Type 0) (letter mask : ℕ → ℕ) (count : ℕ) : Type 0 where
+  pub told : (text : List ℕ) → GlobMatches pattern text → (part : ℕ) → part < count → (place : ℕ) → Has place → letter place ≡ slice_index text part
+      → bit_at (mask place) part ≡ 1
+
+-- the bit is set in the masks of the letters for which the test holds, and nothing else has changed
+abbrev pub Marks : (ℕ → Type 0) → (ℕ → ℕ) → (ℕ → Bool) → ℕ → List ℕ → List ℕ → Type 0
+Marks Has letter test bit before after =
+    (place : ℕ) → Has place → (part : ℕ)
+    → bit_at (slice_index after place) part ≡ (if part == bit && test (letter place) then 1 else bit_at (slice_index before place) part)
+
+-- the bit is set in the masks of the letters that the pattern's first part allows, and no other bit has changed
+pub record MarksAllowed (pattern : List ℕ) (Has : ℕ → Type 0) (letter : ℕ → ℕ) (bit : ℕ) (before after : List ℕ) : Type 0 where
+  pub noted : (place : ℕ) → Has place → (rest : List ℕ) → AllowsFirst pattern (letter place) rest → bit_at (slice_index after place) bit ≡ 1
+  pub others : (place : ℕ) → Has place → (part : ℕ) → part ≢ bit → bit_at (slice_index after place) part ≡ bit_at (slice_index before place) part
+
+-- each of so many parts allows its letter, from the place on, as the masks tell
+abbrev pub AllowsAt : (ℕ → ℕ) → ℕ → ℕ → Type 0
+AllowsAt mask parts place = (part : ℕ) → part < parts → bit_at (mask (place + part)) part ≡ 1
+
+-- places at which each part allows its letter live on, if they lived
+abbrev pub KeepsAllowed : (ℕ → ℕ) → ℕ → List Bool → List Bool → Type 0
+KeepsAllowed mask parts before after =
+    (place : ℕ) → place < length before → AllowsAt mask parts place → get_or after place false ≡ get_or before place false

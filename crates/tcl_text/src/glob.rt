@@ -19,8 +19,8 @@ impl Text {
     /// `[..]` for one of its characters and ranges, `\x` for x itself. The first `]` ends a class, in which a backslash is itself.
     /// A pattern whose class isn't closed, or that ends with a lone backslash, matches nothing. It takes no memory. What stands between two
     /// stars costs as many steps as the text is long, where it is plain characters, and what stands behind the last star as many as it is
-    /// long itself. The other parts between stars cost at most their length times the text's, where it isn't ASCII. In an ASCII text 64 of them cost a
-    /// step for each byte, and a class a step for each member and each 8,192 bytes.
+    /// long itself. Of other parts 64 are looked at in one pass over the text, and a class costs a step for each member in each 1,024 places (8,192 of an
+    /// ASCII text), or one for each member and place above U+07FF.
     pub fn glob_match(pattern: &Text, text: &Text) -> bool
         ensures matches { IsTrue result ↔ GlobMatches (chars pattern.now) (chars text.now) }
         ensures value { result ≡ glob_matches (chars pattern.now) (chars text.now) }

@@ -10,6 +10,8 @@ mod edit;
 mod element;
 mod fault;
 mod glob;
+mod glob_letters;
+mod glob_masks;
 mod glob_places;
 mod integer;
 mod item_bytes;

@@ -12,7 +12,7 @@ loop-at-preserved c = (
   omega arith,
   search rules,
   Spans-both _ _ _ _ _ c.loop-at.invariant.2 c.mark_parts-count.ensures.spans,
-  dead_more _ _ _ _ _ _ _ c.loop-at.at c.mark_parts-count.result.0 c.loop-at.invariant.3 c.loop-at.invariant.2 c.mark_parts-count.ensures.allows c.keep_allowed-some.ensures (search rules) (omega arith)
+  dead_more _ _ _ _ _ _ _ c.loop-at.at c.mark_parts-count.result.0 c.loop-at.invariant.3 c.loop-at.invariant.2 c.mark_parts-count.ensures.below c.keep_allowed-some.ensures (search rules) (omega arith)
       (λ place. let fits = c.type_inv.window place in omega arith) (λ place within. grind (arith, places)),
 )
 
@@ -21,5 +21,5 @@ returns-then-count-eq0 c = c.loop-at.invariant.3
 
 pub returns-then-not-some : goal.returns-then-not-some
 returns-then-not-some c =
-    dead_more _ _ _ _ _ _ _ c.loop-at.at c.mark_parts-count.result.0 c.loop-at.invariant.3 c.loop-at.invariant.2 c.mark_parts-count.ensures.allows c.keep_allowed-some.ensures (search rules) (omega arith)
+    dead_more _ _ _ _ _ _ _ c.loop-at.at c.mark_parts-count.result.0 c.loop-at.invariant.3 c.loop-at.invariant.2 c.mark_parts-count.ensures.below c.keep_allowed-some.ensures (search rules) (omega arith)
     (λ place. let fits = c.type_inv.window place in omega arith) (λ place within. grind (arith, places))

@@ -1,5 +1,5 @@
 //! The commands on variables, by their names.
-ghost use Rattle.std.specs.Prelude.{◌≡◌, ◌<◌, length, IfOk};
+ghost use Rattle.std.specs.Prelude.{◌≡◌, ◌<◌, [], ◌∷◌, length, IfOk};
 ghost use Rattle.tcl_commands.specs.Commands as spec;
 ghost use Rattle.tcl_commands.specs.Refusals.{Does};
 ghost use Rattle.tcl_commands.specs.Links.{upvar_words};
@@ -8,7 +8,9 @@ ghost use Rattle.tcl_commands.specs.Values.{exists_words};
 use crate::arrays::array_words;
 use crate::links::{global_words, upvar_words};
 use crate::unset::unset_words;
-use crate::values::{append_words, exists_words, incr_words, lappend_words, set_words};
+use crate::values::{
+    append_one, append_words, exists_words, incr_words, increase, lappend_words, set_to, set_words,
+};
 use std::alloc::{AllocError, Global};
 use tcl_text::Text;
 use tcl_text::answers::{Refusal, Reply};
@@ -75,6 +77,45 @@ pub fn call_variable_command(
     }
 }
 
+/// The same of a command with one word behind its name.
+pub fn call_with_one(
+    alloc: Global,
+    scopes: &mut Scopes,
+    frame: usize,
+    command: VariableCommand,
+    word: &Text,
+) -> Result<Result<Text, Text>, AllocError>
+    requires { frame < length scopes.old }
+    ensures does { IfOk result (λ answer. record { store = scopes.new; answer = answer } ≡ spec.command_done command frame (word.now ∷ []) scopes.old) }
+    ensures levels { length scopes.new ≡ length scopes.old }
+{
+    match command.done_with_one(alloc, scopes, frame, word) {
+        Ok(text) => Ok(Ok(text)),
+        Err(Refusal::Error(message)) => Ok(Err(message)),
+        Err(Refusal::NoMemory) => Err(AllocError),
+    }
+}
+
+/// The same of a command with two words behind its name.
+pub fn call_with_two(
+    alloc: Global,
+    scopes: &mut Scopes,
+    frame: usize,
+    command: VariableCommand,
+    word: &Text,
+    value: Text,
+) -> Result<Result<Text, Text>, AllocError>
+    requires { frame < length scopes.old }
+    ensures does { IfOk result (λ answer. record { store = scopes.new; answer = answer } ≡ spec.command_done command frame (word.now ∷ value ∷ []) scopes.old) }
+    ensures levels { length scopes.new ≡ length scopes.old }
+{
+    match command.done_with_two(alloc, scopes, frame, word, value) {
+        Ok(text) => Ok(Ok(text)),
+        Err(Refusal::Error(message)) => Ok(Err(message)),
+        Err(Refusal::NoMemory) => Err(AllocError),
+    }
+}
+
 impl VariableCommand {
     /// The command of this name.
     #[tactic(auto, unfolding(crate::specs::Commands::variable_command_named))]
@@ -90,6 +131,39 @@ impl VariableCommand {
             "array" => Some(VariableCommand::Array),
             "global" => Some(VariableCommand::Global),
             _ => None,
+        }
+    }
+
+    /// What a command does, called with one word after its name: `incr` needs no list of it.
+    fn done_with_one(self, alloc: Global, scopes: &mut Scopes, frame: usize, word: &Text) -> Reply
+        requires { frame < length scopes.old }
+        ensures does { Does result scopes.new (spec.command_done self frame (word.now ∷ []) scopes.old) }
+        ensures levels { length scopes.new ≡ length scopes.old }
+    {
+        match self {
+            VariableCommand::Incr => increase(alloc, scopes, frame, word, None),
+            command => command.done(alloc, scopes, frame, &[word.copy()?]),
+        }
+    }
+
+    /// What a command does, called with two words after its name: `set`, `incr` and `append` need no list of them.
+    fn done_with_two(
+        self,
+        alloc: Global,
+        scopes: &mut Scopes,
+        frame: usize,
+        word: &Text,
+        value: Text,
+    ) -> Reply
+        requires { frame < length scopes.old }
+        ensures does { Does result scopes.new (spec.command_done self frame (word.now ∷ value ∷ []) scopes.old) }
+        ensures levels { length scopes.new ≡ length scopes.old }
+    {
+        match self {
+            VariableCommand::Set => set_to(alloc, scopes, frame, word, value),
+            VariableCommand::Incr => increase(alloc, scopes, frame, word, Some(&value)),
+            VariableCommand::Append => append_one(alloc, scopes, frame, word, &value),
+            command => command.done(alloc, scopes, frame, &[word.copy()?, value]),
         }
     }
 

@@ -16,7 +16,8 @@ mod values;
 
 pub use branches::{Branch, Branches, Choices, if_choices, switch_arms};
 pub use commands::{
-    VariableCommand, call_variable_command, info_exists, upvar_command, variable_command,
+    VariableCommand, call_variable_command, call_with_one, call_with_two, info_exists,
+    upvar_command, variable_command,
 };
 pub use groups::{Group, Groups, foreach_groups, has_body};
 pub use links::UPVAR_USAGE;

@@ -1,5 +1,5 @@
 //! The commands of set(n), incr(n), append(n) and lappend(n), and `info exists` of info(n).
-ghost use Rattle.std.specs.Prelude.{◌≡◌, ◌<◌, ◌≤◌, ℕ, List, [], ◌∷◌, ◌++◌, length, IfOk, OnOk, Err, codes, string_bytes};
+ghost use Rattle.std.specs.Prelude.{◌≡◌, ◌<◌, ◌≤◌, ℕ, List, [], ◌∷◌, ◌++◌, length, IfOk, IfSome, MatchOption, OnErr, OnOk, Ok, Err, codes, string_bytes};
 ghost use Rattle.std.specs.List.{concat};
 ghost use Rattle.std.specs.Option.{option_copied};
 ghost use Rattle.tcl_text.specs.Answers.{Gives, answers};
@@ -46,7 +46,7 @@ fn value_of(alloc: Global, scopes: &Scopes, frame: usize, name: &Text) -> Reply
 
 /// Sets a variable to a value, which is the answer.
 #[tactic(auto, using(crate::proofs::DoneLemmas::not_set))]
-fn set_to(alloc: Global, scopes: &mut Scopes, frame: usize, name: &Text, value: Text) -> Reply
+pub fn set_to(alloc: Global, scopes: &mut Scopes, frame: usize, name: &Text, value: Text) -> Reply
     requires { frame < length scopes.old }
     ensures does { Does result scopes.new
         (spec.value_set name.now value scopes.old (with_variable scopes.old frame name.now value)) }
@@ -77,8 +77,63 @@ pub fn incr_words(alloc: Global, scopes: &mut Scopes, frame: usize, words: &[Tex
 }
 
 /// Adds an amount, or 1, to a variable.
+pub fn increase(
+    alloc: Global,
+    scopes: &mut Scopes,
+    frame: usize,
+    name: &Text,
+    amount: Option<&Text>,
+) -> Reply
+    requires { frame < length scopes.old }
+    ensures does { Does result scopes.new
+        (spec.variable_changed frame name.now (codes "0") (spec.increased (spec.amount_in (option_copied amount.entry))) scopes.old) }
+    ensures no_memory { IfNoMemory result (scopes.new ≡ scopes.old) }
+    ensures levels { length scopes.new ≡ length scopes.old }
+{
+    match increase_there(scopes, frame, name, amount)? {
+        Some(sum) => Ok(sum),
+        None => increase_anew(alloc, scopes, frame, name, amount),
+    }
+}
+
+/// Adds an amount, or 1, to a variable that is an integer of its own frame, and gives the sum; none, and nothing is done, for another one, for an
+/// amount that is no integer, and where 64 bits don't hold the sum.
+#[tactic(auto, using(crate::proofs::SumLemmas::sum_changes))]
+fn increase_there(
+    scopes: &mut Scopes,
+    frame: usize,
+    name: &Text,
+    amount: Option<&Text>,
+) -> Result<Option<Text>, AllocError>
+    requires { frame < length scopes.old }
+    ensures ok { IfOk result (λ sum. MatchOption sum (scopes.new ≡ scopes.old) (λ text. record { store = scopes.new; answer = Ok text }
+        ≡ spec.variable_changed frame name.now (codes "0") (spec.increased (spec.amount_in (option_copied amount.entry))) scopes.old)) }
+    ensures err { OnErr result (scopes.new ≡ scopes.old) }
+    ensures levels { length scopes.new ≡ length scopes.old }
+{
+    let Some(number) = amount_known(amount) else {
+        return Ok(None);
+    };
+    match scopes.add(frame, name, number)? {
+        Some(sum) => Ok(Some(sum)),
+        None => Ok(None),
+    }
+}
+
+/// The amount that a word is, if it is one, or 1 without one.
+#[tactic(auto, unfolding(tcl_text::specs::Answers::integer_in))]
+fn amount_known(word: Option<&Text>) -> Option<i64>
+    ensures { IfSome result (λ number. spec.amount_in (option_copied word.entry) ≡ Ok number) }
+{
+    match word {
+        Some(word) => word.integer().ok(),
+        None => Some(1),
+    }
+}
+
+/// Adds an amount, or 1, to a variable, which is read and then set.
 #[tactic(auto, using(crate::proofs::DoneLemmas::changes))]
-fn increase(
+fn increase_anew(
     alloc: Global,
     scopes: &mut Scopes,
     frame: usize,
@@ -163,7 +218,13 @@ pub fn append_words(alloc: Global, scopes: &mut Scopes, frame: usize, words: &[T
 }
 
 /// Adds one value behind a variable, which needs no text of its own.
-fn append_one(alloc: Global, scopes: &mut Scopes, frame: usize, name: &Text, value: &Text) -> Reply
+pub fn append_one(
+    alloc: Global,
+    scopes: &mut Scopes,
+    frame: usize,
+    name: &Text,
+    value: &Text,
+) -> Reply
     requires { frame < length scopes.old }
     ensures does { Does result scopes.new
         (spec.variable_changed frame name.now [] (λ text. answers (text ++ concat (value.now ∷ []))) scopes.old) }

@@ -1,3 +1,4 @@
+pub mod ArmLemmas
 pub mod AssignLemmas
 pub mod CallLemmas
 pub mod ExpressionLemmas

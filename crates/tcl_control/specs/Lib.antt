@@ -1,4 +1,5 @@
 -- What the contracts cite.
+pub mod Arms
 pub mod Assign
 pub mod Choices
 pub mod Commands

@@ -1,7 +1,8 @@
-ghost use Rattle.std.specs.Prelude.{◌≡◌, ◌∷◌, [], IfOk};
+ghost use Rattle.std.specs.Prelude.{◌≡◌, ◌<◌, ◌≤◌, ◌+◌, ◌==◌, ◌||◌, ◌&&◌, ◌∷◌, [], ℕ, List, length, drop, take, codes, bytes_eq, IfOk, MatchOption};
 ghost use Rattle.tcl_text.specs.Readings.{list_of};
 ghost use Rattle.tcl_commands.specs.Branches.{arms_of};
 ghost use Rattle.tcl_commands.specs.IfWords.{choices_of};
+ghost use Rattle.tcl_control.specs.Arms.{paired};
 ghost use Rattle.tcl_control.specs.Choices.{if_plan, ends_open, is_dash, matches, takes, body_of, arm_for, by_arms, by_pairs, switched, switched_past, switch_plan, no_body};
 ghost use Rattle.tcl_control.specs.Commands.{bad_option_plan};
 
@@ -12,7 +13,7 @@ use std::alloc::{AllocError, Global};
 use tcl_commands::{Branch, if_choices, switch_arms};
 use tcl_table::Source;
 use tcl_text::message::bad_option_text;
-use tcl_text::{SplitFault, Text};
+use tcl_text::{ListString, SplitFault, Text};
 
 /// `if` (if(n)).
 pub fn if_plan(alloc: Global, words: &[Text]) -> Result<Plan, AllocError>
@@ -118,6 +119,107 @@ fn by_arms(
     }
 }
 
+/// Half of an even number; none of an odd one.
+fn half(count: usize) -> Option<usize>
+    ensures { MatchOption result ((k : ℕ) × (count ≡ k + k + 1)) (λ k. count ≡ k + k) }
+{
+    let half = count / 2;
+    if count - half == half {
+        Some(half)
+    } else {
+        None
+    }
+}
+
+/// The first body that stands for itself, of the arms of a kept list from one on.
+fn body_in(alloc: Global, list: &ListString, count: usize, from: usize) -> Result<Plan, AllocError>
+    requires whole { length list.now ≡ count + count }
+    requires within { from ≤ count }
+    ensures { IfOk result (λ plan. plan ≡ body_of (paired (drop (from + from) list.now))) }
+{
+    let _whole = list.len();
+    let mut arm = from;
+    'arms: while arm < count {
+        let body = list.item(alloc, arm + arm + 1)?;
+        if !is_dash(&body) {
+            return Ok(Plan::Runs(Source::of_text(body)));
+        }
+        arm += 1;
+    }
+    Ok(Plan::Ends(Code::Normal, Text::empty()))
+}
+
+/// Whether the arm of this number in a kept list takes a value.
+fn takes_in(
+    alloc: Global,
+    matching: Matching,
+    value: &Text,
+    list: &ListString,
+    count: usize,
+    arm: usize,
+) -> Result<bool, AllocError>
+    requires whole { length list.now ≡ count + count }
+    requires within { arm < count }
+    ensures { IfOk result (λ taken. (test : List ℕ) × (drop (arm + arm) (take (arm + arm + 1) list.now) ≡ test ∷ [])
+        × (taken ≡ (matches matching test value.now || ((arm + 1 == count) && bytes_eq test (codes "default"))))) }
+{
+    let _whole = list.len();
+    let test = list.item(alloc, arm + arm)?;
+    Ok(matches(matching, &test, value) || (arm + 1 == count && test.as_str() == "default"))
+}
+
+/// The body of the first arm in a kept list that takes a value.
+fn arm_in(
+    alloc: Global,
+    matching: Matching,
+    value: &Text,
+    list: &ListString,
+    count: usize,
+) -> Result<Plan, AllocError>
+    requires { length list.now ≡ count + count }
+    ensures { IfOk result (λ plan. plan ≡ arm_for matching value.now (paired list.now)) }
+{
+    let mut arm = 0;
+    'arms: while arm < count {
+        if takes_in(alloc, matching, value, list, count, arm)? {
+            return body_in(alloc, list, count, arm);
+        }
+        arm += 1;
+    }
+    Ok(Plan::Ends(Code::Normal, Text::empty()))
+}
+
+/// Whether the last body of a kept list stands for the one behind it.
+fn ends_open_in(alloc: Global, list: &ListString, count: usize) -> Result<bool, AllocError>
+    requires { length list.now ≡ count + count }
+    ensures { IfOk result (λ ends. ends ≡ ends_open (paired list.now)) }
+{
+    let _whole = list.len();
+    if count == 0 {
+        return Ok(false);
+    }
+    let last = list.item(alloc, count + count - 1)?;
+    Ok(is_dash(&last))
+}
+
+/// What `switch` does with a kept list of patterns and bodies, of which only those are taken out that it needs.
+fn by_kept(
+    alloc: Global,
+    matching: Matching,
+    value: &Text,
+    list: &ListString,
+) -> Result<Plan, AllocError>
+    ensures { IfOk result (λ plan. plan ≡ by_arms matching value.now (arms_of list.now)) }
+{
+    let Some(count) = half(list.len()) else {
+        return no_body(alloc);
+    };
+    if ends_open_in(alloc, list, count)? {
+        return no_body(alloc);
+    }
+    arm_in(alloc, matching, value, list, count)
+}
+
 fn switched(
     alloc: Global,
     matching: Matching,
@@ -126,6 +228,9 @@ fn switched(
 ) -> Result<Plan, AllocError>
     ensures { IfOk result (λ plan. plan ≡ switched matching value.now pairs.now) }
 {
+    if let Some(list) = pairs.as_list(alloc) {
+        return by_kept(alloc, matching, value, list);
+    }
     match pairs.split_list(alloc) {
         Ok(items) => by_arms(alloc, matching, value, items.as_slice()),
         Err(SplitFault::BadList(fault)) => Ok(fails(fault.told(alloc)?)),

@@ -1,10 +1,11 @@
-ghost use Rattle.std.specs.Prelude.{◌≡◌, ◌<◌, ◌≤◌, [], ◌∷◌, length, codes, Some, IfOk};
+ghost use Rattle.std.specs.Prelude.{◌≡◌, ◌<◌, ◌≤◌, [], ◌∷◌, length, codes, Some, IfOk, IfSome};
 ghost use Rattle.std.specs.Option.{option_copied};
 ghost use Rattle.tcl_text.specs.Commands.{command_answer};
 ghost use Rattle.tcl_text.specs.Readings.{integer_of};
 ghost use Rattle.tcl_text.specs.StringCommands.{concat_words};
 ghost use Rattle.tcl_vars.specs.Store.{Store, with_variable};
 ghost use Rattle.tcl_control.specs.Commands.{code_number, stored_ending, caught_ending, break_plan, catch_plan, continue_plan, error_plan, eval_plan, expr_plan, for_plan, foreach_plan, info_plan, return_plan, texts_plan, uplevel_plan, while_plan, on_joined, code_of, code_of_integer, code_numbered, unsigned_of, absolute, relative, runs_up, returns_as, returns_code, is_level, levels_left, bad_level, runs_at, level_plan};
+ghost use Rattle.tcl_control.specs.declared.context.Context.{Context as SpecContext};
 ghost use Rattle.tcl_control.specs.Control.{recorded_plan, proc_call, rename_call, builtin_call, by_command, call_of, keeps_all};
 ghost use Rattle.tcl_text.specs.Limits.{most_bytes};
 
@@ -307,6 +308,23 @@ fn return_plan(alloc: Global, words: &[Text]) -> Result<Plan, AllocError>
     }
 }
 
+/// What `break`, `continue` and `return` do with their words, whatever the variables are; none for another command.
+pub fn leaving_plan(
+    alloc: Global,
+    builtin: Builtin,
+    words: &[Text],
+) -> Result<Option<Plan>, AllocError>
+    ensures { IfOk result (λ found. IfSome found (λ plan. (store : Store) (context : SpecContext) →
+        builtin_call builtin words.now store context ≡ keeps_all store context plan)) }
+{
+    match builtin {
+        Builtin::Break => Ok(Some(break_plan(alloc, words)?)),
+        Builtin::Continue => Ok(Some(continue_plan(alloc, words)?)),
+        Builtin::Return => Ok(Some(return_plan(alloc, words)?)),
+        _ => Ok(None),
+    }
+}
+
 /// Whether a word is a level: it begins with a digit or `#`.
 fn is_level(word: &[u8]) -> bool
     ensures { result ≡ is_level word.now }
@@ -419,7 +437,7 @@ fn level_plan(alloc: Global, count: usize, words: &[Text]) -> Result<Plan, Alloc
 }
 
 /// `info` at so many levels (info(n)).
-fn info_plan(
+pub fn info_plan(
     alloc: Global,
     scopes: &Scopes,
     count: usize,

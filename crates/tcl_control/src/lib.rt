@@ -16,7 +16,7 @@ mod variables;
 
 pub use code::{Code, ReturnCode, STRAY_BREAK, STRAY_CONTINUE};
 pub use context::Context;
-pub use control::{Call, End, call_command, caught};
+pub use control::{Call, End, call_command, caught, info_plan, leaving_plan};
 pub use expression::{Expression, integer_of, truth};
 pub use loops::{Loop, Looping, Test, Verdict, items_tested};
 pub use plan::Plan;

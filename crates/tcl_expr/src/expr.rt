@@ -1,9 +1,13 @@
+ghost use Rattle.std.specs.Prelude.{◌≡◌, IfSome};
+ghost use Rattle.tcl_expr.specs.declared.step.Step.TheVariants as step;
+
 use crate::step::Step;
-use crate::straight::{Numbers, integer_by, is_straight};
+use crate::straight::{Numbers, integer_behind, integer_by, is_straight};
 use std::alloc::{AllocError, Global};
 use std::marker::Model;
 use std::rc::Rc;
 use tcl_text::Text;
+use tcl_words::Script;
 
 /// An expression, read and shared by its copies. Contracts see its source alone, of which the steps are those of its tree.
 pub struct Expr {
@@ -15,6 +19,8 @@ struct ParsedExpr {
     text: Text,
     steps: Vec<Step>,
     is_straight: bool,
+    /// Whether straight code has all the steps behind the first.
+    goes_on_straight: bool,
 }
 
 impl Model for Expr {
@@ -30,24 +36,46 @@ impl Model for Expr {
     ghost invariant = { λ e. compiled e.parsed.value.text ≡ Ok e.parsed.value.steps.items };
 }
 
+/// Whether straight code has all of these steps.
+fn all_straight(steps: &[Step]) -> bool {
+    steps.iter().all(is_straight)
+}
+
+/// The script whose result a step asks for, if it asks for one.
+fn script_in(own: &Step) -> Option<&Script>
+    ensures { IfSome result (λ script. own.now ≡ step.Command script.now) }
+{
+    match own {
+        Step::Command(script) => Some(script),
+        _ => None,
+    }
+}
+
 impl Expr {
-    ghost use Rattle.std.specs.Prelude.{◌≡◌, [], Ok, IfOk, IfSome, IsOk};
+    ghost use Rattle.std.specs.Prelude.{◌≡◌, ◌∷◌, [], List, Ok, Some, IfOk, IfSome, IsOk};
     ghost use Rattle.tcl_expr.specs.declared.state.State.TheVariants.{Ready};
     ghost use Rattle.tcl_expr.specs.Grammar.{IsExpression};
     ghost use Rattle.tcl_expr.specs.Reading.{compiled, tree_of};
     ghost use Rattle.tcl_expr.specs.Resuming.{evaluation_at};
-    ghost use Rattle.tcl_expr.specs.Straight.{ComesTo};
+    ghost use Rattle.tcl_expr.specs.Straight.{ComesTo, straight};
+    ghost use Rattle.tcl_expr.specs.declared.step.Step.{Step};
+    ghost use Rattle.tcl_expr.specs.declared.step.Step.TheVariants as step;
 
     /// An expression of this text, of which these are the steps.
     pub(crate) fn new(alloc: Global, text: Text, steps: Vec<Step>) -> Result<Expr, AllocError>
         requires { compiled text ≡ Ok steps.items }
         ensures { IfOk result (λ expr. expr ≡ text) }
     {
-        let is_straight = steps.iter().all(is_straight);
+        let is_straight = all_straight(steps.as_slice());
+        let goes_on_straight = match steps.as_slice() {
+            [_, behind @ ..] => all_straight(behind),
+            [] => false,
+        };
         let parsed = ParsedExpr {
             text,
             steps,
             is_straight,
+            goes_on_straight,
         };
         Ok(Expr {
             parsed: Rc::new(alloc, parsed)?,
@@ -84,6 +112,31 @@ impl Expr {
             integer_by(numbers, self.steps())
         } else {
             None
+        }
+    }
+
+    /// The script in brackets whose result its evaluation asks for first, where straight code has all that comes behind it. It takes no memory.
+    pub fn leading_script(&self) -> Option<&Script>
+        ensures { IfSome result (λ script. (behind : List Step) × (compiled self.now ≡ Ok (step.Command script.now ∷ behind))) }
+    {
+        if !self.parsed.goes_on_straight {
+            return None;
+        }
+        match self.steps() {
+            [first, ..] => script_in(first),
+            [] => None,
+        }
+    }
+
+    /// The integer that its evaluation comes to behind its first step, where that gives this one and all else is as `integer` needs it. It takes no
+    /// memory.
+    pub fn integer_behind<N: Numbers>(&self, numbers: &N, first: i64) -> Option<i64>
+        ensures { IfSome result (λ n. (own : Step) (behind : List Step) → compiled self.now ≡ Ok (own ∷ behind)
+            → straight (N.number numbers.now) 0 behind (first ∷ []) ≡ Some n) }
+    {
+        match self.steps() {
+            [_, behind @ ..] => integer_behind(numbers, behind, first),
+            [] => None,
         }
     }
 

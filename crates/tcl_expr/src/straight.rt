@@ -1,5 +1,5 @@
 //! Straight code: the steps of an expression, performed on integers alone where it needs nothing else.
-ghost use Rattle.std.specs.Prelude.{◌≡◌, ◌<◌, length, List, ℕ, ℤ, Option, [], IfSome, not};
+ghost use Rattle.std.specs.Prelude.{◌≡◌, ◌<◌, length, List, ℕ, ℤ, Option, [], ◌∷◌, IfSome, not};
 ghost use Rattle.tcl_expr.specs.Straight as integers;
 
 use crate::arithmetic::{complement, negated};
@@ -159,14 +159,30 @@ fn step_at<N: Numbers>(
     Some(place + 1 + skip.min(steps.len() - place - 1))
 }
 
-/// The integer that steps come to, where all that they need is integers.
-pub fn integer_by<N: Numbers>(numbers: &N, steps: &[Step]) -> Option<i64>
-    ensures { IfSome result (λ n. integers.straight (N.number numbers.now) 0 steps.now [] ≡ Option.Some n) }
+/// The integer that steps come to with these integers waiting, where all that they need is integers.
+fn integer_over<N: Numbers>(numbers: &N, steps: &[Step], waiting: Integers) -> Option<i64>
+    ensures { IfSome result (λ n. integers.straight (N.number numbers.now) 0 steps.now waiting ≡ Option.Some n) }
 {
-    let mut stack = Integers::new();
+    let mut stack = waiting;
     let mut place = 0;
     while place < steps.len() {
         place = step_at(numbers, &mut stack, steps, place)?;
     }
     Some(stack.pop())
+}
+
+/// The integer that steps come to, where all that they need is integers.
+pub fn integer_by<N: Numbers>(numbers: &N, steps: &[Step]) -> Option<i64>
+    ensures { IfSome result (λ n. integers.straight (N.number numbers.now) 0 steps.now [] ≡ Option.Some n) }
+{
+    integer_over(numbers, steps, Integers::new())
+}
+
+/// The integer that steps come to behind one that gives this integer, where all that they need is integers.
+pub fn integer_behind<N: Numbers>(numbers: &N, steps: &[Step], first: i64) -> Option<i64>
+    ensures { IfSome result (λ n. integers.straight (N.number numbers.now) 0 steps.now (first ∷ []) ≡ Option.Some n) }
+{
+    let mut waiting = Integers::new();
+    waiting.push(first)?;
+    integer_over(numbers, steps, waiting)
 }

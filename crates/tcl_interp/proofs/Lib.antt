@@ -3,6 +3,7 @@ pub mod Agreeing
 pub mod Answering
 pub mod Bounds
 pub mod ChoiceLemmas
+pub mod Decisions
 pub mod Elements
 pub mod Ends
 pub mod Finishing

@@ -25,7 +25,7 @@ use Rattle.tcl_control.specs.declared.loops.Test.TheVariants.{Holds}
 use Rattle.tcl_control.specs.Expressions.{truth_of_text, truth_or_text}
 use Rattle.tcl_table.specs.Levels.{here}
 use Rattle.tcl_commands.specs.declared.branches.Branch.{Branch}
-use Rattle.tcl_interp.specs.Finish.{Evaluates, Ends, Waiting, ForTest, ForChoice}
+use Rattle.tcl_interp.specs.Finish.{Begins, Evaluates, Ends, Waiting, ForTest, ForChoice, ForValue}
 use Rattle.tcl_interp.specs.Moves.{Standing, moved, standing, value_given, begun_as, expression_begins, choice_move, chosen_move, iteration_move, test_move, end_move}
 use Rattle.tcl_interp.specs.Openings.{IsInteger, Knows}
 use Rattle.tcl_interp.specs.Quiet.{Moves, Leads, MovesOn}
@@ -83,6 +83,30 @@ straight_moves store context room waits evaluation given level n answered at_lev
 
 leads_of : {K : Type 0} (m n : Standing K) → MovesOn m n → Leads m n
 leads_of m n (between, leads, quiet, last) = leads_on m between n leads last
+
+-- an evaluation whose first step is a script in brackets asks for its result
+pub asks_script : {K : Type 0} (store : Store) (context : Context) (room : ℕ) (waits : List (Waiting K)) (script : List ℕ) (rest : List Step)
+    → Leads (standing (moved (Evaluates room (record { steps = step.Command script ∷ rest; stack = []; state = state.Ready }) None) waits) store context)
+    (standing (moved (Begins room script) (ForValue room (record { steps = rest; stack = []; state = state.Waiting }) ∷ waits)) store context)
+asks_script {K} store context room waits script rest =
+    let from : Standing K = standing (moved (Evaluates room (record { steps = step.Command script ∷ rest; stack = []; state = state.Ready }) None) waits) store context in
+    let next : Resumption = record { steps = rest; stack = []; state = state.Waiting } in
+    let move : Moves from (standing (moved (Begins room script) (ForValue room next ∷ waits)) store context) = ((Ok (ask.Command script), next, refl, ([], refl), refl), refl, refl) in
+    (1, (from, refl, move))
+
+-- and is given it, and straight code says the value of what is left
+pub given_moves : {K : Type 0} (store : Store) (context : Context) (room : ℕ) (waits : List (Waiting K)) (value : List ℕ) (rest : List Step) (level : ℕ) (first n : ℤ)
+    → level ≡ here context.levels store → integer_of value ≡ Some first → straight (number_in store level) 0 rest (first ∷ []) ≡ Some n
+    → Leads (standing (moved (Evaluates room (record { steps = rest; stack = []; state = state.Waiting }) (Some value)) waits) store context)
+    (standing (moved (Ends Normal (signed_decimal n)) waits) store context)
+given_moves {K} store context room waits value rest level first n at_level is comes =
+    let next : Resumption = record { steps = rest; stack = []; state = state.Waiting } in
+    let from : Standing K = standing (moved (Evaluates room next (Some value)) waits) store context in
+    let same = ap (λ l. straight (number_in store l) 0 rest (first ∷ [])) (sym at_level) ∙ comes in
+    leads_of from (standing (moved (Ends Normal (signed_decimal n)) waits) store context)
+    (ends store context room waits from (signed_decimal n)
+    (goes (number_in store (here context.levels store)) n (At store context room waits from) (past store context room waits from) (asked store context room waits from)
+    rest 0 (first ∷ []) (Words value ∷ []) (is, tt) same (next, Some value, (0, refl), ([], refl), refl)))
 
 -- an expression that begins, and of which straight code says the value, has ended by such moves
 pub opened_leads : {K : Type 0} (store : Store) (context : Context) (room : ℕ) (waits : List (Waiting K)) (text : List ℕ) (level : ℕ) (n : ℤ)

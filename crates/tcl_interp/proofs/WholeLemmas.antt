@@ -17,7 +17,6 @@ use Rattle.tcl_control.specs.declared.context.Context.{Context}
 use Rattle.tcl_control.specs.declared.plan.Plan.TheVariants as plan
 use Rattle.tcl_control.specs.Choices.{if_by}
 use Rattle.tcl_control.specs.Control.{by_command, keeps_all}
-use Rattle.tcl_table.specs.Levels.{here}
 use Rattle.tcl_table.specs.Source.{script_of}
 use Rattle.tcl_interp.specs.declared.chosen.Chosen.TheVariants as chosen
 use Rattle.tcl_interp.specs.declared.machine.ScriptPlace.{ScriptPlace}
@@ -26,18 +25,17 @@ use Rattle.tcl_interp.specs.declared.whole.Past.TheVariants as past
 use Rattle.tcl_interp.specs.Outside.{Outside}
 use Rattle.tcl_interp.specs.Evaluation.{and_then, called}
 use Rattle.tcl_interp.specs.Finish.{Begins, Calls, Ends, ForCommand, GoesOn, Waiting, waits_meaning, words_rest}
-use Rattle.tcl_interp.specs.Moves.{Standing, after_command, chosen_move, moved, otherwise_move, standing}
-use Rattle.tcl_interp.specs.Openings.{Knows}
+use Rattle.tcl_interp.specs.Moves.{Standing, after_command, choice_move, chosen_move, moved, otherwise_move, standing}
 use Rattle.tcl_interp.specs.Quiet.{Leads}
 use Rattle.tcl_interp.specs.Rests.{commands_in, words_in_front}
 use Rattle.tcl_interp.specs.Simple.{CommandEnds, EndsCall, GivesWord, IsWritten, WordsLead}
 use Rattle.tcl_interp.specs.Steps.{TakesStep, TakesSteps, finish_from, state_with}
-use Rattle.tcl_interp.specs.Whole.{Chooses, IfWords, Passes, WrittenAt, past_to, waiting_at}
+use Rattle.tcl_interp.specs.Whole.{Chooses, Decides, IfWords, Passes, WrittenAt, past_to, waiting_at}
+use Rattle.tcl_interp.proofs.Decisions.{decided_chooses}
 use Rattle.tcl_interp.proofs.OnwardLemmas.{end_leads, script_leads, steps_lead}
 use Rattle.tcl_interp.proofs.Same.{end_same, next_in, run_in}
 use Rattle.tcl_interp.proofs.SimpleLemmas.{at_once, calls_in, front_suc, place_leads, word_leads_suc, words_lead, written_gives, steps_on}
 use Rattle.tcl_interp.proofs.Stepping.{call_plan}
-use Rattle.tcl_interp.proofs.Straight.{choice_leads}
 use Rattle.tcl_interp.proofs.TurnLemmas.{script_begins}
 
 -- the last of those that wait
@@ -173,54 +171,62 @@ module _ {S K : Type 0} (outside : Outside S K) where
       (word_leads_suc outside room (t ∷ s ∷ []) 0 store context 0 between (name ∷ test ∷ body ∷ []) (omega arith) (written_gives outside room (t ∷ s ∷ []) store context between d.0 d.1))
       (word_leads_suc outside room (s ∷ []) 0 store context 0 last (name ∷ test ∷ body ∷ between ∷ []) (omega arith) (written_gives outside room (s ∷ []) store context last e.0 e.1)))
 
-  -- `if` is called with one branch, of which it is known whether its condition holds
-  if_called : (room : ℕ) (name test body : List ℕ) (arguments : List (List ℕ)) (otherwise : Option (List ℕ)) (holds : Bool) (waits : List (Waiting K)) (shows : S) (store : Store) (context : Context) (level : ℕ)
+  -- `if` is called with one branch
+  if_called : (room : ℕ) (name test body : List ℕ) (arguments : List (List ℕ)) (otherwise : Option (List ℕ)) (waits : List (Waiting K)) (shows : S) (store : Store) (context : Context)
       → command_of context.commands (plain_name name) ≡ Some (command.Builtin builtin.If) → choices_of arguments ≡ Some (record { branches = branch_of test body ∷ []; otherwise = otherwise })
-      → level ≡ here context.levels store → Knows store level test holds
-      → TakesStep outside (standing (moved (Calls room (name ∷ arguments)) waits) store context) shows (standing (chosen_move room (branch_of test body ∷ []) otherwise waits (Ok holds)) store context) shows
-  if_called room name test body arguments otherwise holds waits shows store context level binding choices at_level knows =
-      call_plan outside room name arguments waits shows store context store context (plan.Chooses (record { branches = branch_of test body ∷ []; otherwise = otherwise })) _
+      → TakesStep outside (standing (moved (Calls room (name ∷ arguments)) waits) store context) shows (standing (choice_move room (branch_of test body ∷ []) otherwise waits) store context) shows
+  if_called room name test body arguments otherwise waits shows store context binding choices =
+      call_plan outside room name arguments waits shows store context store context (plan.Chooses (record { branches = branch_of test body ∷ []; otherwise = otherwise }))
+      (standing (choice_move room (branch_of test body ∷ []) otherwise waits) store context)
       (sym (ap (by_command name arguments store context) binding ∙ ap (λ c. keeps_all store context (if_by c)) choices))
-      (choice_leads store context room (branch_of test body ∷ []) (branch_of test body) otherwise waits level holds (omega arith) refl at_level knows)
+      (0, refl)
 
   -- the words of `if`, and its call
-  if_step : (room : ℕ) (words : List Word) (name test body : List ℕ) (otherwise : Option (List ℕ)) (holds : Bool) (waits : List (Waiting K)) (shows : S) (store : Store) (context : Context) (level : ℕ)
-      → WrittenAt 0 words name → IfWords words test body otherwise → command_of context.commands (plain_name name) ≡ Some (command.Builtin builtin.If) → level ≡ here context.levels store → Knows store level test holds
+  if_step : (room : ℕ) (words : List Word) (name test body : List ℕ) (otherwise : Option (List ℕ)) (waits : List (Waiting K)) (shows : S) (store : Store) (context : Context)
+      → WrittenAt 0 words name → IfWords words test body otherwise → command_of context.commands (plain_name name) ≡ Some (command.Builtin builtin.If)
       → (texts : List (List ℕ)) × (0 < length texts) × WordsLead outside room store context words [] 0 [] texts
-      × TakesStep outside (standing (moved (Calls room texts) waits) store context) shows (standing (chosen_move room (branch_of test body ∷ []) otherwise waits (Ok holds)) store context) shows
-  if_step room words name test body None holds waits shows store context level named (three, a, b, plain) binding at_level knows = (
+      × TakesStep outside (standing (moved (Calls room texts) waits) store context) shows (standing (choice_move room (branch_of test body ∷ []) otherwise waits) store context) shows
+  if_step room words name test body None waits shows store context named (three, a, b, plain) binding = (
     name ∷ test ∷ body ∷ [],
     omega arith,
     three_lead room words store context name test body three named a b,
-    if_called room name test body (test ∷ body ∷ []) None holds waits shows store context level binding (one_branch test body plain) at_level knows,
+    if_called room name test body (test ∷ body ∷ []) None waits shows store context binding (one_branch test body plain),
   )
-  if_step room words name test body (Some last) holds waits shows store context level named (five, a, b, plain, c, d) binding at_level knows = (
+  if_step room words name test body (Some last) waits shows store context named (five, a, b, plain, c, d) binding = (
     name ∷ test ∷ body ∷ codes "else" ∷ last ∷ [],
     omega arith,
     five_lead room words store context name test body (codes "else") last five named a b c d,
-    if_called room name test body (test ∷ body ∷ codes "else" ∷ last ∷ []) (Some last) holds waits shows store context level binding (else_branch test body last plain) at_level knows,
+    if_called room name test body (test ∷ body ∷ codes "else" ∷ last ∷ []) (Some last) waits shows store context binding (else_branch test body last plain),
   )
 
   -- `if` at a place of a script, where its condition is known
-  if_leads : (room : ℕ) (commands : List Command) (i : ℕ) (previous name test body : List ℕ) (otherwise : Option (List ℕ)) (holds : Bool) (waits : List (Waiting K)) (shows : S) (store : Store) (context : Context) (level : ℕ)
+  if_leads : (room : ℕ) (commands : List Command) (i : ℕ) (previous name test body : List ℕ) (otherwise : Option (List ℕ)) (count : ℕ) (holds : Bool) (waits : List (Waiting K)) (shows : S) (store : Store) (context : Context)
       → 0 < length (words_in_front (drop i commands)) → WrittenAt 0 (words_in_front (drop i commands)) name → IfWords (words_in_front (drop i commands)) test body otherwise
-      → command_of context.commands (plain_name name) ≡ Some (command.Builtin builtin.If) → level ≡ here context.levels store → Knows store level test holds
-      → TakesSteps outside 1 (standing (moved (GoesOn room (drop i commands) previous) waits) store context) shows
+      → command_of context.commands (plain_name name) ≡ Some (command.Builtin builtin.If) → Decides outside room store context test count holds
+      → TakesSteps outside (count + 1) (standing (moved (GoesOn room (drop i commands) previous) waits) store context) shows
       (standing (chosen_move room (branch_of test body ∷ []) otherwise (ForCommand room (drop (i + 1) commands) ∷ waits) (Ok holds)) store context) shows
-  if_leads room commands i previous name test body otherwise holds waits shows store context level front named words binding at_level knows =
-      let step = if_step room (words_in_front (drop i commands)) name test body otherwise holds (ForCommand room (drop (i + 1) commands) ∷ waits) shows store context level named words binding at_level knows in
-      place_leads outside room commands i previous waits shows store context 0 step.0 (standing (chosen_move room (branch_of test body ∷ []) otherwise (ForCommand room (drop (i + 1) commands) ∷ waits) (Ok holds)) store context) shows front step.1 step.2 step.3
+  if_leads room commands i previous name test body otherwise count holds waits shows store context front named words binding decides =
+      let after : List (Waiting K) = ForCommand room (drop (i + 1) commands) ∷ waits in
+      let step = if_step room (words_in_front (drop i commands)) name test body otherwise after shows store context named words binding in
+      let first : Standing K = standing (moved (GoesOn room (drop i commands) previous) waits) store context in
+      let second : Standing K = standing (choice_move room (branch_of test body ∷ []) otherwise after) store context in
+      let third : Standing K = standing (chosen_move room (branch_of test body ∷ []) otherwise after (Ok holds)) store context in
+      let called : TakesSteps outside 1 first shows second shows = place_leads outside room commands i previous waits shows store context 0 step.0 second shows front step.1 step.2 step.3 in
+      let sum : 1 + count ≡ count + 1 = omega arith in
+      subst (λ n. TakesSteps outside n first shows third shows) sum
+      (steps_on outside 1 count first second third shows shows shows called
+      (decided_chooses outside room store context (branch_of test body) [] otherwise after shows count holds decides))
 
   -- it runs nothing
-  ends_by : (room : ℕ) (commands : List Command) (i : ℕ) (previous name : List ℕ) (waits : List (Waiting K)) (shows : S) (store : Store) (context : Context) (level : ℕ)
+  ends_by : (room : ℕ) (commands : List Command) (i : ℕ) (previous name : List ℕ) (count : ℕ) (waits : List (Waiting K)) (shows : S) (store : Store) (context : Context)
       → 0 < length (words_in_front (drop i commands)) → WrittenAt 0 (words_in_front (drop i commands)) name → command_of context.commands (plain_name name) ≡ Some (command.Builtin builtin.If)
-      → level ≡ here context.levels store → Chooses store level (words_in_front (drop i commands)) chosen.Nothing
-      → TakesSteps outside 1 (standing (moved (GoesOn room (drop i commands) previous) waits) store context) shows (standing (after_command room (drop (i + 1) commands) waits Normal []) store context) shows
-  ends_by room commands i previous name waits shows store context level front named binding at_level (test, body, words, knows) =
+      → Chooses outside room store context (words_in_front (drop i commands)) count chosen.Nothing
+      → TakesSteps outside (count + 1) (standing (moved (GoesOn room (drop i commands) previous) waits) store context) shows (standing (after_command room (drop (i + 1) commands) waits Normal []) store context) shows
+  ends_by room commands i previous name count waits shows store context front named binding (test, body, words, decides) =
       let first : Standing K = standing (moved (GoesOn room (drop i commands) previous) waits) store context in
       let third : Standing K = standing (after_command room (drop (i + 1) commands) waits Normal []) store context in
-      steps_lead outside 1 first (standing (moved (Ends Normal []) (ForCommand room (drop (i + 1) commands) ∷ waits)) store context) third shows shows
-      (if_leads room commands i previous name test body None false waits shows store context level front named words binding at_level knows)
+      steps_lead outside (count + 1) first (standing (moved (Ends Normal []) (ForCommand room (drop (i + 1) commands) ∷ waits)) store context) third shows shows
+      (if_leads room commands i previous name test body None count false waits shows store context front named words binding decides)
       (end_leads store context Normal [] (ForCommand room (drop (i + 1) commands) ∷ waits) third refl)
 
   body_begins : (room : ℕ) (test body script : List ℕ) (otherwise : Option (List ℕ)) (holds : Bool) (waits : List (Waiting K)) → Some script ≡ cond holds (Some body) otherwise
@@ -229,43 +235,43 @@ module _ {S K : Type 0} (outside : Outside S K) where
   body_begins room test body script otherwise false waits is = ap (λ s. otherwise_move room s waits) (sym is)
 
   -- it runs this body
-  begins_by : (room : ℕ) (commands : List Command) (i : ℕ) (previous name script : List ℕ) (waits : List (Waiting K)) (shows : S) (store : Store) (context : Context) (level : ℕ)
+  begins_by : (room : ℕ) (commands : List Command) (i : ℕ) (previous name script : List ℕ) (count : ℕ) (waits : List (Waiting K)) (shows : S) (store : Store) (context : Context)
       → 0 < room → 0 < length (words_in_front (drop i commands)) → WrittenAt 0 (words_in_front (drop i commands)) name → command_of context.commands (plain_name name) ≡ Some (command.Builtin builtin.If)
-      → level ≡ here context.levels store → Chooses store level (words_in_front (drop i commands)) (chosen.Body script)
-      → TakesSteps outside 1 (standing (moved (GoesOn room (drop i commands) previous) waits) store context) shows
+      → Chooses outside room store context (words_in_front (drop i commands)) count (chosen.Body script)
+      → TakesSteps outside (count + 1) (standing (moved (GoesOn room (drop i commands) previous) waits) store context) shows
       (standing (moved (GoesOn (room - 1) (commands_in script) []) (ForCommand room (drop (i + 1) commands) ∷ waits)) store context) shows
-  begins_by room commands i previous name script waits shows store context level some front named binding at_level (test, body, otherwise, holds, words, knows, is, read) =
+  begins_by room commands i previous name script count waits shows store context some front named binding (test, body, otherwise, holds, words, decides, is, read) =
       let after : List (Waiting K) = ForCommand room (drop (i + 1) commands) ∷ waits in
-      let begun = if_leads room commands i previous name test body otherwise holds waits shows store context level front named words binding at_level knows in
+      let begun = if_leads room commands i previous name test body otherwise count holds waits shows store context front named words binding decides in
       let first : Standing K = standing (moved (GoesOn room (drop i commands) previous) waits) store context in
       let third : Standing K = standing (moved (GoesOn (room - 1) (commands_in script) []) after) store context in
-      steps_lead outside 1 first (standing (moved (Begins room script) after) store context) third shows shows
-      (subst (λ m. TakesSteps outside 1 (standing (moved (GoesOn room (drop i commands) previous) waits) store context) shows (standing m store context) shows) (body_begins room test body script otherwise holds after is) begun)
+      steps_lead outside (count + 1) first (standing (moved (Begins room script) after) store context) third shows shows
+      (subst (λ m. TakesSteps outside (count + 1) (standing (moved (GoesOn room (drop i commands) previous) waits) store context) shows (standing m store context) shows) (body_begins room test body script otherwise holds after is) begun)
       (script_begins room script after store context some read)
 
-  pub if_ends : (room : ℕ) (commands : List Command) (i : ℕ) (previous name : List ℕ) (waits : List (Waiting K)) (shows : S) (store : Store) (context : Context) (level : ℕ) (words : List Word)
+  pub if_ends : (room : ℕ) (commands : List Command) (i : ℕ) (previous name : List ℕ) (count : ℕ) (waits : List (Waiting K)) (shows : S) (store : Store) (context : Context) (words : List Word)
       → words ≡ words_in_front (drop i commands) → WrittenAt 0 words name → command_of context.commands (plain_name name) ≡ Some (command.Builtin builtin.If)
-      → level ≡ here context.levels store → Chooses store level words chosen.Nothing
-      → TakesSteps outside 1 (standing (moved (GoesOn room (drop i commands) previous) waits) store context) shows (standing (after_command room (drop (i + 1) commands) waits Normal []) store context) shows
-  if_ends room commands i previous name waits shows store context level words at named binding at_level chooses =
-      ends_by room commands i previous name waits shows store context level (subst (λ ws. 0 < length ws) at (written_some words name named.0)) (subst (λ ws. WrittenAt 0 ws name) at named) binding at_level
-      (subst (λ ws. Chooses store level ws chosen.Nothing) at chooses)
+      → Chooses outside room store context words count chosen.Nothing
+      → TakesSteps outside (count + 1) (standing (moved (GoesOn room (drop i commands) previous) waits) store context) shows (standing (after_command room (drop (i + 1) commands) waits Normal []) store context) shows
+  if_ends room commands i previous name count waits shows store context words at named binding chooses =
+      ends_by room commands i previous name count waits shows store context (subst (λ ws. 0 < length ws) at (written_some words name named.0)) (subst (λ ws. WrittenAt 0 ws name) at named) binding
+      (subst (λ ws. Chooses outside room store context ws count chosen.Nothing) at chooses)
 
   -- it runs a body, which has come so far
-  pub if_begins : (room : ℕ) (commands : List Command) (i : ℕ) (previous name script : List ℕ) (waits : List (Waiting K)) (shows : S) (store : Store) (context : Context) (level : ℕ) (words : List Word) (store' : Store) (steps : ℕ) (way : Past)
+  pub if_begins : (room : ℕ) (commands : List Command) (i : ℕ) (previous name script : List ℕ) (count : ℕ) (waits : List (Waiting K)) (shows : S) (store : Store) (context : Context) (words : List Word) (store' : Store) (steps : ℕ) (way : Past)
       → 0 < room → words ≡ words_in_front (drop i commands) → WrittenAt 0 words name → command_of context.commands (plain_name name) ≡ Some (command.Builtin builtin.If)
-      → level ≡ here context.levels store → Chooses store level words (chosen.Body script)
+      → Chooses outside room store context words count (chosen.Body script)
       → TakesSteps outside steps (standing (moved (GoesOn (room - 1) (commands_in script) []) (ForCommand room (drop (i + 1) commands) ∷ waits)) store context) shows (standing (past_to room i commands previous way waits) store' context) shows
-      → TakesSteps outside (steps + 1) (standing (moved (GoesOn room (drop i commands) previous) waits) store context) shows (standing (past_to room i commands previous way waits) store' context) shows
-  if_begins room commands i previous name script waits shows store context level words store' steps way some at named binding at_level chooses went =
+      → TakesSteps outside (steps + (count + 1)) (standing (moved (GoesOn room (drop i commands) previous) waits) store context) shows (standing (past_to room i commands previous way waits) store' context) shows
+  if_begins room commands i previous name script count waits shows store context words store' steps way some at named binding chooses went =
       let first : Standing K = standing (moved (GoesOn room (drop i commands) previous) waits) store context in
       let second : Standing K = standing (moved (GoesOn (room - 1) (commands_in script) []) (ForCommand room (drop (i + 1) commands) ∷ waits)) store context in
       let third : Standing K = standing (past_to room i commands previous way waits) store' context in
-      let sum : 1 + steps ≡ steps + 1 = omega arith in
+      let sum : (count + 1) + steps ≡ steps + (count + 1) = omega arith in
       subst (λ n. TakesSteps outside n first shows third shows) sum
-      (steps_on outside 1 steps first second third shows shows shows
-      (begins_by room commands i previous name script waits shows store context level some (subst (λ ws. 0 < length ws) at (written_some words name named.0)) (subst (λ ws. WrittenAt 0 ws name) at named) binding at_level
-      (subst (λ ws. Chooses store level ws (chosen.Body script)) at chooses))
+      (steps_on outside (count + 1) steps first second third shows shows shows
+      (begins_by room commands i previous name script count waits shows store context some (subst (λ ws. 0 < length ws) at (written_some words name named.0)) (subst (λ ws. WrittenAt 0 ws name) at named) binding
+      (subst (λ ws. Chooses outside room store context ws count (chosen.Body script)) at chooses))
       went)
 
   -- and that has ended

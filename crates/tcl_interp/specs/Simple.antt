@@ -27,7 +27,11 @@ use Rattle.tcl_interp.specs.Steps.{state_with}
 abbrev pub IsWritten : List Word → List ℕ → Type 0
 IsWritten words text = (expand_in_front words ≡ false) × (pieces_in_front words ≡ Literal text ∷ [])
 
--- an argument of `expr` is an expression that comes to an integer, and this is that in decimal
+-- an expression of this text comes to an integer, and this is that in decimal
+abbrev pub HasValue : Store → ℕ → List ℕ → List ℕ → Type 0
+HasValue store level text value = (n : ℤ) × IsInteger store level text n × (value ≡ signed_decimal n)
+
+-- an argument of `expr` is such an expression
 abbrev pub Computes : Store → ℕ → List ℕ → List ℕ → Type 0
 Computes store level argument value = (text : List ℕ) × (n : ℤ) × (concat_words (argument ∷ []) ≡ Ok text) × IsInteger store level text n × (value ≡ signed_decimal n)
 

@@ -1,5 +1,6 @@
 -- Steps. Scripts whose commands are done on their words: how far they came, and `if` whose body is known.
-use Rattle.std.specs.Prelude.{◌≡◌, ◌≤◌, ◌+◌, ℕ, Bool, true, false, List, [], ◌∷◌, ◌++◌, length, drop, map, if◌then◌else◌, Option, Some, None, IsOk, codes, bytes_eq}
+use Rattle.std.specs.Prelude.{◌≡◌, ◌≤◌, ◌+◌, ℕ, Bool, true, false, List, [], ◌∷◌, ◌++◌, length, drop, map, if◌then◌else◌, Option, Some, None, Ok, IsOk, ℤ, codes, bytes_eq}
+use Rattle.std.specs.Fmt.{signed_decimal}
 use Rattle.tcl_words.specs.declared.script.Command.{Command}
 use Rattle.tcl_words.specs.declared.script.Word.{Word}
 use Rattle.tcl_text.specs.Limits.{most_bytes}
@@ -18,12 +19,13 @@ use Rattle.tcl_interp.specs.declared.whole.Past.TheVariants as past
 use Rattle.tcl_interp.specs.declared.whole.Reach.{Reach}
 use Rattle.tcl_interp.specs.declared.whole.Reach.TheVariants as reach
 use Rattle.tcl_interp.specs.declared.whole.Stop.{Stop}
-use Rattle.tcl_interp.specs.Finish.{ForCommand, GoesOn, Waiting}
-use Rattle.tcl_interp.specs.Moves.{Moved, after_command, moved}
-use Rattle.tcl_interp.specs.Openings.{Knows}
+use Rattle.tcl_control.specs.Expressions.{truth_of_text}
+use Rattle.tcl_interp.specs.Finish.{Ends, ForCommand, GoesOn, Waiting}
+use Rattle.tcl_interp.specs.Moves.{Moved, after_command, expression_begins, moved, standing}
 use Rattle.tcl_interp.specs.Rests.{left_in}
 use Rattle.tcl_interp.specs.Outside.{Outside}
 use Rattle.tcl_interp.specs.Simple.{CommandEnds, IsWritten}
+use Rattle.tcl_interp.specs.Steps.{TakesSteps}
 
 module _ {K : Type 0} where
   -- a script at a place waits for its command
@@ -62,16 +64,23 @@ IfWords words test body (Some last) =
     (length words ≡ 5) × WrittenAt 1 words test × WrittenAt 2 words body × (bytes_eq body (codes "then") ≡ false) × WrittenAt 3 words (codes "else")
     × WrittenAt 4 words last
 
--- `if` of these words runs this body, or none
-abbrev pub Chooses : Store → ℕ → List Word → Chosen → Type 0
-Chooses store level words chosen.Nothing = (test : List ℕ) × (body : List ℕ) × IfWords words test body None × Knows store level test false
-Chooses store level words (chosen.Body script) =
-    (test : List ℕ) × (body : List ℕ) × (otherwise : Option (List ℕ)) × (holds : Bool) × IfWords words test body otherwise × Knows store level test holds
-    × (Some script ≡ (if holds then Some body else otherwise)) × IsOk (script_of script)
-
 module _ {S K : Type 0} (outside : Outside S K) where
   -- a command of these words came so far for so many steps, with these variables, where scripts in it have so much room
   abbrev pub Passes : ℕ → List Word → Store → Context → ℕ → Past → Store → Type 0
   Passes room words store context steps (past.Before front) store' = (steps ≡ 0) × (store' ≡ store)
   Passes room words store context steps (past.Behind code text) store' = CommandEnds outside room words store context steps store' code text
   Passes room words store context steps (past.Within stop) store' = ⊥
+
+  -- a condition of this text is an integer behind so many steps, by which it holds or doesn't, whatever waits for it
+  abbrev pub Decides : ℕ → Store → Context → List ℕ → ℕ → Bool → Type 0
+  Decides room store context text count holds =
+      (n : ℤ) × (truth_of_text (signed_decimal n) ≡ Ok holds)
+      × ((waits : List (Waiting K)) (shows : S) → TakesSteps outside count (standing (moved (expression_begins room text) waits) store context) shows
+      (standing (moved (Ends Normal (signed_decimal n)) waits) store context) shows)
+
+  -- `if` of these words runs this body, or none, behind so many steps for its condition
+  abbrev pub Chooses : ℕ → Store → Context → List Word → ℕ → Chosen → Type 0
+  Chooses room store context words count chosen.Nothing = (test : List ℕ) × (body : List ℕ) × IfWords words test body None × Decides room store context test count false
+  Chooses room store context words count (chosen.Body script) =
+      (test : List ℕ) × (body : List ℕ) × (otherwise : Option (List ℕ)) × (holds : Bool) × IfWords words test body otherwise × Decides room store context test count holds
+      × (Some script ≡ (if holds then Some body else otherwise)) × IsOk (script_of script)

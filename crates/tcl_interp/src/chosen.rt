@@ -1,14 +1,17 @@
-//! `if` whose words are written, with a condition that was read before and of which straight code knows whether it holds.
-ghost use Rattle.std.specs.Prelude.{◌≡◌, ◌<◌, length, IfOk, IfSome};
+//! `if` whose words are written, with a condition that was read before and of which straight code knows whether it holds, also behind a script in
+//! brackets in front of it that is plain.
+ghost use Rattle.std.specs.Prelude.{◌≡◌, ◌<◌, ◌≤◌, length, IfOk, IfSome};
 ghost use Rattle.std.specs.Option.{option_copied};
-ghost use Rattle.tcl_interp.specs.Openings.{Knows};
-ghost use Rattle.tcl_interp.specs.Whole.{Chooses, IfWords};
+ghost use Rattle.tcl_table.specs.Levels.{here};
+ghost use Rattle.tcl_interp.specs.Whole.{Chooses, Decides, IfWords};
 
 use crate::openings::holds;
 use crate::seen::Seen;
-use crate::simple::written;
-use std::alloc::AllocError;
+use crate::simple::{DEPTH, script_value, written};
+use crate::tasks::Tasks;
+use std::alloc::{AllocError, Global};
 use tcl_control::{Context, integer_of};
+use tcl_expr::Expr;
 use tcl_text::Text;
 use tcl_vars::Scopes;
 use tcl_words::{Script, Word};
@@ -20,6 +23,20 @@ pub enum Chosen {
     Nothing,
     /// This one.
     Body(Script),
+}
+
+/// What `if` has chosen, and the steps that were taken for its condition.
+#[derive(Drop)]
+pub struct Choice {
+    pub chosen: Chosen,
+    pub steps: u64,
+}
+
+/// Whether a condition holds, and the steps that were taken for it.
+#[derive(Drop)]
+struct Decided {
+    holds: bool,
+    steps: u64,
 }
 
 /// The words of `if`: a condition, a body, and the body behind `else`, if there is one.
@@ -58,38 +75,105 @@ fn clauses_of(words: &[Word]) -> Option<Clauses<'_>>
     None
 }
 
-/// Whether a condition holds, where it was read before and straight code says so. Variables are those of a level.
-fn kept_condition(
+/// Whether a condition holds, where straight code says so without a step. Variables are those of a level.
+fn straight_condition<T: Tasks>(
     scopes: &Scopes,
     context: &Context,
     level: usize,
-    text: &Text,
-) -> Result<Option<bool>, AllocError>
-    requires { level < length scopes.now }
-    ensures { IfOk result (λ known. IfSome known (Knows scopes.now level text.now)) }
+    expr: &Expr,
+    room: u64,
+) -> Option<Decided>
+    requires level { level ≡ here context.now.levels scopes.now }
+    requires there { level < length scopes.now }
+    ensures decides { IfSome result (λ decided. Decides T.outside room scopes.now context.now expr.now decided.steps decided.holds) }
+    ensures most { IfSome result (λ decided. decided.steps ≡ 0) }
 {
-    // one that begins with a bracket isn't straight
-    if text.as_str().starts_with("[") {
+    let _ = &context.levels;
+    match integer_of(expr, &Seen { scopes, level }) {
+        Some(number) => Some(Decided {
+            holds: holds(number),
+            steps: 0,
+        }),
+        None => None,
+    }
+}
+
+/// Whether a condition holds, where its first part is a script in brackets that is plain and gives an integer, and straight code says so behind it.
+/// Variables are those of a level.
+fn condition_behind<T: Tasks>(
+    alloc: Global,
+    scopes: &Scopes,
+    context: &Context,
+    level: usize,
+    expr: &Expr,
+    room: u64,
+    most: u64,
+) -> Result<Option<Decided>, AllocError>
+    requires level { level ≡ here context.now.levels scopes.now }
+    requires there { level < length scopes.now }
+    ensures decides { IfOk result (λ found. IfSome found (λ decided. Decides T.outside room scopes.now context.now expr.now decided.steps decided.holds)) }
+    ensures most { IfOk result (λ found. IfSome found (λ decided. decided.steps ≤ most)) }
+{
+    if room == 0 || most == 0 {
         return Ok(None);
     }
-    let Some(expr) = context.commands.kept_expression(text)? else {
+    let Some(script) = expr.leading_script() else {
         return Ok(None);
     };
-    match integer_of(&expr, &Seen { scopes, level }) {
-        Some(number) => Ok(Some(holds(number))),
+    let found = script_value::<T>(alloc, scopes, context, level, script, room, most, DEPTH)?;
+    let Some(found) = found else {
+        return Ok(None);
+    };
+    let Ok(first) = found.text.integer() else {
+        return Ok(None);
+    };
+    match expr.integer_behind(&Seen { scopes, level }, first) {
+        Some(number) => Ok(Some(Decided {
+            holds: holds(number),
+            steps: found.steps,
+        })),
         None => Ok(None),
     }
 }
 
-/// The body that `if` runs, where that is known at once, and the body was read before.
-pub fn choose_body(
+/// Whether a condition holds, where it was read before and that is known at once, for so many steps at most. Variables are those of a level.
+fn kept_condition<T: Tasks>(
+    alloc: Global,
+    scopes: &Scopes,
+    context: &Context,
+    level: usize,
+    text: &Text,
+    room: u64,
+    most: u64,
+) -> Result<Option<Decided>, AllocError>
+    requires level { level ≡ here context.now.levels scopes.now }
+    requires there { level < length scopes.now }
+    ensures decides { IfOk result (λ found. IfSome found (λ decided. Decides T.outside room scopes.now context.now text.now decided.steps decided.holds)) }
+    ensures most { IfOk result (λ found. IfSome found (λ decided. decided.steps ≤ most)) }
+{
+    let Some(expr) = context.commands.known_expression(text) else {
+        return Ok(None);
+    };
+    match straight_condition::<T>(scopes, context, level, expr, room) {
+        Some(decided) => Ok(Some(decided)),
+        None => condition_behind::<T>(alloc, scopes, context, level, expr, room, most),
+    }
+}
+
+/// The body that `if` runs, where that is known at once, for so many steps at most, and the body was read before.
+pub fn choose_body<T: Tasks>(
+    alloc: Global,
     scopes: &Scopes,
     context: &Context,
     level: usize,
     words: &[Word],
-) -> Result<Option<Chosen>, AllocError>
-    requires { level < length scopes.now }
-    ensures { IfOk result (λ found. IfSome found (Chooses scopes.now level words.now)) }
+    room: u64,
+    most: u64,
+) -> Result<Option<Choice>, AllocError>
+    requires level { level ≡ here context.now.levels scopes.now }
+    requires there { level < length scopes.now }
+    ensures chooses { IfOk result (λ found. IfSome found (λ choice. Chooses T.outside room scopes.now context.now words.now choice.steps choice.chosen)) }
+    ensures most { IfOk result (λ found. IfSome found (λ choice. choice.steps ≤ most)) }
 {
     let Some(found) = clauses_of(words) else {
         return Ok(None);
@@ -99,15 +183,21 @@ pub fn choose_body(
         body,
         otherwise,
     } = found;
-    let Some(holds) = kept_condition(scopes, context, level, test)? else {
+    let known = kept_condition::<T>(alloc, scopes, context, level, test, room, most)?;
+    let Some(decided) = known else {
         return Ok(None);
     };
+    let Decided { holds, steps } = decided;
     let taken = if holds { Some(body) } else { otherwise };
     let Some(taken) = taken else {
-        return Ok(Some(Chosen::Nothing));
+        let chosen = Chosen::Nothing;
+        return Ok(Some(Choice { chosen, steps }));
     };
     match context.commands.kept_script(taken)? {
-        Some(script) => Ok(Some(Chosen::Body(script))),
+        Some(script) => {
+            let chosen = Chosen::Body(script);
+            Ok(Some(Choice { chosen, steps }))
+        }
         None => Ok(None),
     }
 }

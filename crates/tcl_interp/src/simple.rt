@@ -12,7 +12,7 @@ ghost use Rattle.tcl_control.specs.Variables.{answer_code, answer_text};
 ghost use Rattle.tcl_interp.specs.Finish.{Calls, ForCommand, GoesOn};
 ghost use Rattle.tcl_interp.specs.Moves.{moved, standing};
 ghost use Rattle.tcl_interp.specs.Rests.{IsSingle, expand_in_front, left_in, pieces_in_front, standing_of, waits_of, words_in_front};
-ghost use Rattle.tcl_interp.specs.Simple.{CommandEnds, Computes, EndsCall, ExprGives, GivesScript, GivesWord, IsWritten, WordsLead};
+ghost use Rattle.tcl_interp.specs.Simple.{CommandEnds, Computes, EndsCall, ExprGives, GivesScript, GivesWord, HasValue, IsWritten, WordsLead};
 ghost use Rattle.tcl_interp.specs.Steps.{TakesStep, TakesSteps};
 ghost use Rattle.tcl_text.specs.Limits.{most_bytes};
 
@@ -24,7 +24,7 @@ use crate::words::{
     Put, commands, expand_at, next_words, past_command, pieces_at, put_pieces, single_text, wait,
 };
 use std::alloc::{AllocError, Global};
-use tcl_control::{Code, Context, End, integer_of};
+use tcl_control::{Code, Context, End, Plan, info_plan, integer_of};
 use tcl_table::{Builtin, Command, is_dotted, plain_name};
 use tcl_text::{Text, TextCommand, TextList};
 use tcl_vars::Scopes;
@@ -92,6 +92,30 @@ pub fn command_named<'a>(context: &'a Context, name: &Text) -> Option<&'a Comman
     context.commands.get(plain)
 }
 
+/// The value of an expression, where it was read before and straight code says it.
+fn straight_text(
+    alloc: Global,
+    scopes: &Scopes,
+    context: &Context,
+    level: usize,
+    text: &Text,
+) -> Result<Option<Text>, AllocError>
+    requires { level < length scopes.now }
+    ensures { IfOk result (λ value. IfSome value (λ value. HasValue scopes.now level text.now value × (length value ≤ most_bytes))) }
+{
+    let Some(expr) = context.commands.known_expression(text) else {
+        return Ok(None);
+    };
+    match integer_of(expr, &Seen { scopes, level }) {
+        Some(number) => {
+            let value = Text::from_integer(alloc, number)?;
+            let _short = value.as_str();
+            Ok(Some(value))
+        }
+        None => Ok(None),
+    }
+}
+
 /// What `expr` makes of one argument, where it was read before and straight code says its value.
 fn computed(
     alloc: Global,
@@ -103,20 +127,12 @@ fn computed(
     requires { level < length scopes.now }
     ensures { IfOk result (λ value. IfSome value (λ text. Computes scopes.now level argument.now text × (length text ≤ most_bytes))) }
 {
-    let text = match TextCommand::Concat.answer(alloc, &[argument.copy()?])? {
-        Ok(text) => text,
-        Err(_) => return Ok(None),
-    };
-    let Some(expr) = context.commands.kept_expression(&text)? else {
-        return Ok(None);
-    };
-    match integer_of(&expr, &Seen { scopes, level }) {
-        Some(number) => {
-            let value = Text::from_integer(alloc, number)?;
-            let _short = value.as_str();
-            Ok(Some(value))
-        }
-        None => Ok(None),
+    if argument.is_trimmed() {
+        return straight_text(alloc, scopes, context, level, argument);
+    }
+    match TextCommand::Concat.answer(alloc, &[argument.copy()?])? {
+        Ok(text) => straight_text(alloc, scopes, context, level, &text),
+        Err(_) => Ok(None),
     }
 }
 
@@ -238,9 +254,72 @@ fn text_worth<T: Tasks>(
     }
 }
 
-/// What a script gives that is one command, `expr` with one argument or one on texts or lists, with brackets at most so deep in its words.
+/// Calls `info` by this name with these words behind it, which ends at once.
+fn call_info<T: Tasks>(
+    alloc: Global,
+    scopes: &Scopes,
+    context: &Context,
+    name: &Text,
+    arguments: &[Text],
+) -> Result<Option<End>, AllocError>
+    requires { command_of context.now.commands (plain_name name.now) ≡ Some (Command.Builtin Builtin.Info) }
+    ensures { IfOk result (λ found. IfSome found (λ end. EndsCall T.outside (name.now ∷ arguments.now) scopes.now context.now scopes.now end.code end.text)) }
+{
+    let _ = &context.commands;
+    let _ = name.as_str();
+    let count = context.levels.count();
+    let level = context.levels.here(scopes);
+    match info_plan(alloc, scopes, count, level, arguments)? {
+        Plan::Ends(code, text) => Ok(Some(End { code, text })),
+        _ => Ok(None),
+    }
+}
+
+/// What `info` by this name gives, where its words are plain and it ends with no error.
 #[cycle(words)]
-fn script_value<T: Tasks>(
+fn info_worth<T: Tasks>(
+    alloc: Global,
+    scopes: &Scopes,
+    context: &Context,
+    words: &[Word],
+    name: &Text,
+    room: u64,
+    most: u64,
+    depth: u64,
+) -> Result<Option<Worth>, AllocError>
+    requires name { IsWritten words.now name.now × (length name.now ≤ most_bytes) }
+    requires calls { command_of context.now.commands (plain_name name.now) ≡ Some (Command.Builtin Builtin.Info) }
+    requires some { 0 < most }
+    ensures ends { IfOk result (λ found. IfSome found (λ worth.
+        CommandEnds T.outside room words.now scopes.now context.now worth.steps scopes.now Normal worth.text)) }
+    ensures most { IfOk result (λ found. IfSome found (λ worth. worth.steps ≤ most)) }
+    ensures short { IfOk result (λ found. IfSome found (λ worth. length worth.text ≤ most_bytes)) }
+{
+    let few = most - 1;
+    let found = plain_words::<T>(alloc, scopes, context, words, 1, room, few, depth)?;
+    let Some(found) = found else {
+        return Ok(None);
+    };
+    let arguments = found.words.as_slice();
+    let ended = call_info::<T>(alloc, scopes, context, name, arguments)?;
+    let Some(End { code, text }) = ended else {
+        return Ok(None);
+    };
+    match code {
+        Code::Normal => {
+            let _short = text.as_str();
+            Ok(Some(Worth {
+                text,
+                steps: found.steps + 1,
+            }))
+        }
+        _ => Ok(None),
+    }
+}
+
+/// What a script gives that is one command, `expr` with one argument, `info` or one on texts or lists, with brackets at most so deep in its words.
+#[cycle(words)]
+pub fn script_value<T: Tasks>(
     alloc: Global,
     scopes: &Scopes,
     context: &Context,
@@ -280,6 +359,16 @@ fn script_value<T: Tasks>(
             words,
             name,
             *command,
+            room - 1,
+            most,
+            depth - 1,
+        ),
+        Some(Command::Builtin(Builtin::Info)) if depth > 0 => info_worth::<T>(
+            alloc,
+            scopes,
+            context,
+            words,
+            name,
             room - 1,
             most,
             depth - 1,

@@ -1,6 +1,7 @@
 //! Commands that are done on their words as they are written, without moves: those on variables, texts and lists, and `if`. And scripts of such
 //! commands, as far as they go on.
-ghost use Rattle.std.specs.Prelude.{◌≡◌, IsTrue, ◌<◌, ◌≤◌, ◌+◌, ◌-◌, [], ◌∷◌, ℕ, length, drop, List, Some, IfOk, OnErr};
+ghost use Rattle.std.specs.Prelude.{◌≡◌, IsTrue, ◌<◌, ◌≤◌, ◌+◌, ◌-◌, [], ◌∷◌, ℕ, length, drop, List, Some, IfOk, IfSome, OnErr};
+ghost use Rattle.tcl_vars.specs.Store.{Store};
 ghost use Rattle.tcl_table.specs.Names.{plain_name};
 ghost use Rattle.tcl_table.specs.Table.{command_of};
 ghost use Rattle.tcl_interp.specs.Finish.{ForCommand, GoesOn, Waiting};
@@ -10,14 +11,14 @@ ghost use Rattle.tcl_interp.specs.Simple.{EndsCall};
 ghost use Rattle.tcl_interp.specs.Steps.{TakesSteps};
 ghost use Rattle.tcl_interp.specs.Whole.{Passes, WrittenAt, came_to, past_to, reached_to, stopped_in};
 
-use crate::chosen::{Chosen, choose_body};
+use crate::chosen::{Choice, Chosen, choose_body};
 use crate::machine::{Front, ScriptPlace};
 use crate::simple::{DEPTH, call_texts, command_named, end_of, plain_words, word_value, written};
 use crate::tasks::Tasks;
 use crate::words::{commands, words_at};
 use std::alloc::{AllocError, Global};
-use tcl_commands::{VariableCommand, call_variable_command};
-use tcl_control::{Code, Context, End};
+use tcl_commands::{VariableCommand, call_variable_command, call_with_one, call_with_two};
+use tcl_control::{Code, Context, End, Plan, leaving_plan};
 use tcl_table::{Builtin, Command};
 use tcl_text::{Text, TextCommand};
 use tcl_vars::Scopes;
@@ -103,6 +104,118 @@ fn call_variable<T: Tasks>(
     let level = context.levels.here(scopes);
     let answer = call_variable_command(alloc, scopes, level, command, arguments)?;
     Ok(end_of(answer))
+}
+
+/// Calls a command on variables of this name with one word behind it.
+fn call_one<T: Tasks>(
+    alloc: Global,
+    scopes: &mut Scopes,
+    context: &Context,
+    name: &Text,
+    command: VariableCommand,
+    word: &Text,
+) -> Result<End, AllocError>
+    requires { command_of context.now.commands (plain_name name.now) ≡ Some (Command.Builtin (Builtin.Variable command)) }
+    ensures { IfOk result (λ end. EndsCall T.outside (name.now ∷ word.now ∷ []) scopes.old context.now scopes.new end.code end.text) }
+{
+    let level = context.levels.here(scopes);
+    let answer = call_with_one(alloc, scopes, level, command, word)?;
+    Ok(end_of(answer))
+}
+
+/// Calls a command on variables of this name with two words behind it.
+fn call_two<T: Tasks>(
+    alloc: Global,
+    scopes: &mut Scopes,
+    context: &Context,
+    name: &Text,
+    command: VariableCommand,
+    word: &Text,
+    value: Text,
+) -> Result<End, AllocError>
+    requires { command_of context.now.commands (plain_name name.now) ≡ Some (Command.Builtin (Builtin.Variable command)) }
+    ensures { IfOk result (λ end. EndsCall T.outside (name.now ∷ word.now ∷ value ∷ []) scopes.old context.now scopes.new end.code end.text) }
+{
+    let level = context.levels.here(scopes);
+    let answer = call_with_two(alloc, scopes, level, command, word, value)?;
+    Ok(end_of(answer))
+}
+
+/// A command on variables of this name, with one word behind it, which is written.
+fn with_written<T: Tasks>(
+    alloc: Global,
+    scopes: &mut Scopes,
+    context: &Context,
+    words: &[Word],
+    name: &Text,
+    command: VariableCommand,
+    word: &Text,
+    room: u64,
+    most: u64,
+    left: &mut u64,
+) -> Result<Passed, AllocError>
+    requires two { length words.now ≡ 2 }
+    requires name { WrittenAt 0 words.now name.now }
+    requires word { WrittenAt 1 words.now word.now }
+    requires calls { command_of context.now.commands (plain_name name.now) ≡ Some (Command.Builtin (Builtin.Variable command)) }
+    requires some { 0 < most }
+    requires there { most ≤ left.old }
+    ensures ok { IfOk result (λ passed. Passes T.outside room words.now scopes.old context.now passed.steps passed.past scopes.new) }
+    ensures most { IfOk result (λ passed. passed.steps ≤ most) }
+    ensures counted { IfOk result (λ passed. passed.steps + left.new ≡ left.old) }
+    ensures taken { left.new ≤ left.old }
+    ensures within { left.old ≤ left.new + most }
+    ensures untaken { IfOk result (λ passed. passed.steps ≡ 0 → scopes.new ≡ scopes.old) }
+    ensures uncounted { OnErr result (left.new ≡ left.old → scopes.new ≡ scopes.old) }
+{
+    *left -= 1;
+    let End { code, text } = call_one::<T>(alloc, scopes, context, name, command, word)?;
+    let past = Past::Behind(code, text);
+    Ok(Passed { past, steps: 1 })
+}
+
+/// A command on variables of this name, with two words behind it, the first of which is written.
+fn with_written_first<T: Tasks>(
+    alloc: Global,
+    scopes: &mut Scopes,
+    context: &Context,
+    words: &[Word],
+    name: &Text,
+    command: VariableCommand,
+    word: &Text,
+    room: u64,
+    most: u64,
+    left: &mut u64,
+) -> Result<Passed, AllocError>
+    requires three { length words.now ≡ 3 }
+    requires name { WrittenAt 0 words.now name.now }
+    requires word { WrittenAt 1 words.now word.now }
+    requires calls { command_of context.now.commands (plain_name name.now) ≡ Some (Command.Builtin (Builtin.Variable command)) }
+    requires some { 0 < most }
+    requires there { most ≤ left.old }
+    ensures ok { IfOk result (λ passed. Passes T.outside room words.now scopes.old context.now passed.steps passed.past scopes.new) }
+    ensures most { IfOk result (λ passed. passed.steps ≤ most) }
+    ensures counted { IfOk result (λ passed. passed.steps + left.new ≡ left.old) }
+    ensures taken { left.new ≤ left.old }
+    ensures within { left.old ≤ left.new + most }
+    ensures untaken { IfOk result (λ passed. passed.steps ≡ 0 → scopes.new ≡ scopes.old) }
+    ensures uncounted { OnErr result (left.new ≡ left.old → scopes.new ≡ scopes.old) }
+{
+    let level = context.levels.here(scopes);
+    let few = most - 1;
+    let second = word_value::<T>(alloc, scopes, context, level, words, 2, room, few, DEPTH)?;
+    let Some(second) = second else {
+        return Ok(Passed {
+            past: Past::Before(Front::Unplain),
+            steps: 0,
+        });
+    };
+    let steps = second.steps + 1;
+    *left -= steps;
+    let value = second.text;
+    let End { code, text } = call_two::<T>(alloc, scopes, context, name, command, word, value)?;
+    let past = Past::Behind(code, text);
+    Ok(Passed { past, steps })
 }
 
 /// A command on variables of this name, with one word behind it.
@@ -291,6 +404,71 @@ fn do_texts<T: Tasks>(
     Ok(Passed { past, steps })
 }
 
+/// Calls `break`, `continue` or `return` by this name with these words behind it, which ends at once; none for another command.
+fn call_leaving<T: Tasks>(
+    alloc: Global,
+    context: &Context,
+    name: &Text,
+    builtin: Builtin,
+    arguments: &[Text],
+) -> Result<Option<End>, AllocError>
+    requires { command_of context.now.commands (plain_name name.now) ≡ Some (Command.Builtin builtin) }
+    ensures { IfOk result (λ found. IfSome found (λ end. (store : Store) → EndsCall T.outside (name.now ∷ arguments.now) store context.now store end.code end.text)) }
+{
+    let _ = &context.commands;
+    let _ = name.as_str();
+    match leaving_plan(alloc, builtin, arguments)? {
+        Some(Plan::Ends(code, text)) => Ok(Some(End { code, text })),
+        _ => Ok(None),
+    }
+}
+
+/// Does `break`, `continue` or `return` of this name on its words, for so many steps at most, where they are plain. Nothing is done where they aren't, nor
+/// for another command.
+#[inline(never)]
+fn do_leaving<T: Tasks>(
+    alloc: Global,
+    scopes: &Scopes,
+    context: &Context,
+    words: &[Word],
+    name: &Text,
+    builtin: Builtin,
+    room: u64,
+    most: u64,
+    left: &mut u64,
+) -> Result<Passed, AllocError>
+    requires name { WrittenAt 0 words.now name.now }
+    requires calls { command_of context.now.commands (plain_name name.now) ≡ Some (Command.Builtin builtin) }
+    requires some { 0 < most }
+    requires there { most ≤ left.old }
+    ensures ok { IfOk result (λ passed. Passes T.outside room words.now scopes.now context.now passed.steps passed.past scopes.now) }
+    ensures most { IfOk result (λ passed. passed.steps ≤ most) }
+    ensures counted { IfOk result (λ passed. passed.steps + left.new ≡ left.old) }
+    ensures taken { left.new ≤ left.old }
+    ensures within { left.old ≤ left.new + most }
+{
+    let few = most - 1;
+    let found = plain_words::<T>(alloc, scopes, context, words, 1, room, few, DEPTH)?;
+    let Some(found) = found else {
+        return Ok(Passed {
+            past: Past::Before(Front::Unplain),
+            steps: 0,
+        });
+    };
+    let behind = found.words.as_slice();
+    let ended = call_leaving::<T>(alloc, context, name, builtin, behind)?;
+    let Some(End { code, text }) = ended else {
+        return Ok(Passed {
+            past: Past::Before(Front::Other),
+            steps: 0,
+        });
+    };
+    let steps = found.steps + 1;
+    *left -= steps;
+    let past = Past::Behind(code, text);
+    Ok(Passed { past, steps })
+}
+
 /// Does a command on variables of this name on its words, for so many steps at most, where they are plain. Nothing is done where they aren't. Its steps
 /// are counted before it is called.
 #[inline(never)]
@@ -317,11 +495,17 @@ fn do_variable<T: Tasks>(
     ensures untaken { IfOk result (λ passed. passed.steps ≡ 0 → scopes.new ≡ scopes.old) }
     ensures uncounted { OnErr result (left.new ≡ left.old → scopes.new ≡ scopes.old) }
 {
-    match words.len() {
-        2 => with_one::<T>(
+    match (words.len(), written(words, 1)) {
+        (2, Some(word)) => with_written::<T>(
+            alloc, scopes, context, words, name, command, word, room, most, left,
+        ),
+        (2, None) => with_one::<T>(
             alloc, scopes, context, words, name, command, room, most, left,
         ),
-        3 => with_two::<T>(
+        (3, Some(word)) => with_written_first::<T>(
+            alloc, scopes, context, words, name, command, word, room, most, left,
+        ),
+        (3, None) => with_two::<T>(
             alloc, scopes, context, words, name, command, room, most, left,
         ),
         _ => with_all::<T>(
@@ -431,28 +615,44 @@ fn run_if<T: Tasks>(
     ensures uncounted { OnErr result (left.new ≡ left.old → scopes.new ≡ scopes.old) }
 {
     let level = context.levels.here(scopes);
-    match choose_body(scopes, context, level, words)? {
-        Some(Chosen::Nothing) => {
-            *left -= 1;
+    let few = most - 1;
+    let found = choose_body::<T>(alloc, scopes, context, level, words, room, few)?;
+    let Some(Choice { chosen, steps }) = found else {
+        return Ok(Passed {
+            past: Past::Before(Front::Other),
+            steps: 0,
+        });
+    };
+    let before = steps + 1;
+    match chosen {
+        Chosen::Nothing => {
+            *left -= before;
             let past = Past::Behind(Code::Normal, Text::empty());
-            Ok(Passed { past, steps: 1 })
+            let steps = before;
+            Ok(Passed { past, steps })
         }
-        Some(Chosen::Body(body)) if room > 0 => {
-            *left -= 1;
-            let fewer = most - 1;
+        Chosen::Body(body) if room > 0 => {
+            *left -= before;
+            let fewer = most - before;
             let Passed { past, steps } = run_body::<T>(
                 alloc, scopes, context, script, place, &body, room, fewer, left,
             )?;
-            Ok(Passed {
-                past,
-                steps: steps + 1,
-            })
+            let steps = steps + before;
+            Ok(Passed { past, steps })
         }
         _ => Ok(Passed {
             past: Past::Before(Front::Other),
             steps: 0,
         }),
     }
+}
+
+/// Whether a command is one that only leaves what runs it.
+fn leaves(builtin: Builtin) -> bool {
+    matches!(
+        builtin,
+        Builtin::Break | Builtin::Continue | Builtin::Return
+    )
 }
 
 /// Runs the command at a place of a script, where it can be done on its words, for so many steps at most.
@@ -503,6 +703,12 @@ fn run_command<T: Tasks>(
         Some(Command::Builtin(Builtin::If)) => run_if::<T>(
             alloc, scopes, context, script, place, words, name, room, most, left,
         ),
+        Some(Command::Builtin(builtin)) if leaves(*builtin) => {
+            let builtin = *builtin;
+            do_leaving::<T>(
+                alloc, scopes, context, words, name, builtin, room, most, left,
+            )
+        }
         _ => Ok(Passed {
             past: Past::Before(Front::Other),
             steps: 0,

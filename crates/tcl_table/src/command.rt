@@ -6,7 +6,9 @@ ghost use Rattle.tcl_table.specs.Source.{script_of};
 ghost use Rattle.tcl_table.specs.Table.{builtins, variables, texts, is_procedure, procedure_count, procedures_among, value_at, with_value, without, first_commands, with_builtins, with_texts, with_outside};
 
 use crate::builtin::Builtin;
-use crate::kept::{MOST_SOURCE, expression_at, place_of, script_at, vacant_places, vacate};
+use crate::kept::{
+    MOST_SOURCE, expression_at, expression_held, place_of, script_at, vacant_places, vacate,
+};
 use crate::procedure::Procedure;
 use crate::trail::{CommandPlace, ErrorNote, Trail};
 use indexmap::IndexMap;
@@ -244,6 +246,14 @@ impl CommandTable {
     {
         let _ = &self.entries;
         expression_at(self.expressions.as_slice(), place_of(text), text)
+    }
+
+    /// The same, to look at.
+    pub fn known_expression(&self, text: &Text) -> Option<&Expr>
+        ensures { IfSome result (λ expr. expr.now ≡ text.now) }
+    {
+        let _ = &self.entries;
+        expression_held(self.expressions.as_slice(), place_of(text), text)
     }
 
     /// Keeps an expression by its text, at one of 256 places, in place of what is there.

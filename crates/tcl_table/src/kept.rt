@@ -106,6 +106,20 @@ pub(crate) fn script_at(
     }
 }
 
+/// The expression that is kept at a place, if it is that of a text, to look at.
+pub(crate) fn expression_held<'a>(
+    places: &'a [Option<Expr>],
+    place: usize,
+    text: &Text,
+) -> Option<&'a Expr>
+    ensures { IfSome result (λ expr. expr.now ≡ text.now) }
+{
+    match places.get(place) {
+        Some(Some(expr)) if expr.text().as_str() == text.as_str() => Some(expr),
+        _ => None,
+    }
+}
+
 /// The expression that is kept at a place, if it is that of a text.
 pub(crate) fn expression_at(
     places: &[Option<Expr>],
@@ -114,8 +128,8 @@ pub(crate) fn expression_at(
 ) -> Result<Option<Expr>, AllocError>
     ensures { IfOk result (λ kept. IfSome kept (λ expr. expr ≡ text.now)) }
 {
-    match places.get(place) {
-        Some(Some(expr)) if expr.text().as_str() == text.as_str() => Ok(Some(expr.copy()?)),
-        _ => Ok(None),
+    match expression_held(places, place, text) {
+        Some(expr) => Ok(Some(expr.copy()?)),
+        None => Ok(None),
     }
 }

@@ -96,7 +96,7 @@ concatenated_one : (word : List ℕ) → trimmed word ≡ word → concatenated 
 concatenated_one [] is = refl
 concatenated_one (c ∷ cs) is = ap (λ (text : List ℕ). join_with_byte 32 (kept (text ∷ []))) is ∙ rw (long c cs) refl
 
-single_word : (word : List ℕ) → trimmed word ≡ word → length word ≤ 65536 → answers (concatenated (word ∷ [])) ≡ Ok word
+pub single_word : (word : List ℕ) → trimmed word ≡ word → length word ≤ 65536 → answers (concatenated (word ∷ [])) ≡ Ok word
 single_word word is short = ap answers (concatenated_one word is) ∙ answers_within word short
 
 pub single_answer : (words : List (List ℕ)) (word first again cut : List ℕ) (is_same : Bool) → 1 ≤ length words → length words < 2 → word ≡ get_or words 0 word → first ≡ word → again ≡ word → length word ≤ 65536

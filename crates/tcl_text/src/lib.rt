@@ -43,4 +43,5 @@ pub use fault::{
 pub use integer::{base_named, digit_value};
 pub use list::TextList;
 pub use list_items::ListItems;
+pub use list_string::ListString;
 pub use text::{MAX_BYTES, Text};

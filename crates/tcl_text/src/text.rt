@@ -312,7 +312,7 @@ impl Text {
     }
 
     /// The list that is kept, to look at.
-    pub(crate) fn as_list(&self, alloc: Global) -> Option<&ListString>
+    pub fn as_list(&self, alloc: Global) -> Option<&ListString>
         ensures { IfSome result (λ list. list_of self.now ≡ Ok list.now) }
     {
         match self.as_kept(alloc) {

@@ -1,3 +1,4 @@
+pub mod AddLemmas
 pub mod ArrayLemmas
 pub mod BelowLemmas
 pub mod ChangeLemmas

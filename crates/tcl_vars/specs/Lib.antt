@@ -1,4 +1,5 @@
 -- What the contracts cite.
+pub mod Add
 pub mod Change
 pub mod Changing
 pub mod Links

@@ -1,6 +1,7 @@
-ghost use Rattle.std.specs.Prelude.{◌≡◌, ◌≢◌, ◌+◌, ◌<◌, ◌≤◌, length, List, ℕ, ok_or, option_map, MatchBool, ◌↔◌, MatchResult, Ok, Err, Some, None, false, IsOk, IsSome, IfOk, IfErr, IfSome, OnOk, OnErr};
+ghost use Rattle.std.specs.Prelude.{◌≡◌, ◌≢◌, ◌+◌, ◌<◌, ◌≤◌, length, List, ℕ, ok_or, option_map, MatchBool, MatchOption, ◌↔◌, MatchResult, Ok, Err, Some, None, false, IsOk, IsSome, IfOk, IfErr, IfSome, OnOk, OnErr};
 ghost use Rattle.std.specs.Option.{option_copied};
 ghost use Rattle.tcl_text.specs.Readings.{integer_of};
+ghost use Rattle.tcl_vars.specs.Add.{AddsContent, IsSum};
 ghost use Rattle.tcl_vars.specs.Change.{edited_by};
 ghost use Rattle.tcl_vars.specs.Changing.{ChangesContent, KeepsContent};
 ghost use Rattle.tcl_vars.specs.Put.{AfterContent, RefusesContent};
@@ -10,7 +11,7 @@ ghost use Rattle.tcl_vars.specs.Unset.{AfterUnset};
 ghost use Rattle.tcl_vars.specs.Table.{value_at, with_value, without};
 
 use crate::table::Table;
-use std::alloc::Global;
+use std::alloc::{AllocError, Global};
 use tcl_text::{ChangeFault, Edit, EditFault, ReadFault, SetFault, Text, UnsetFault};
 
 /// What a name of a frame stands for.
@@ -180,6 +181,25 @@ impl Content {
         }
     }
 
+    /// Adds an amount to the integer that the text is, and gives the sum; none, and nothing is done, where there is no text, where it is no integer, or
+    /// where 64 bits don't hold the sum.
+    pub(crate) fn add(&mut self, alloc: Global, amount: i64) -> Result<Option<Text>, AllocError>
+        ensures ok { IfOk result (λ sum. MatchOption sum (self.new ≡ self.old) (λ text. AddsContent self.old amount text self.new)) }
+        ensures err { OnErr result (self.new ≡ self.old) }
+    {
+        match self {
+            Content::Scalar(text) => {
+                let Some(sum) = sum_with(alloc, text, amount)? else {
+                    return Ok(None);
+                };
+                *text = sum.copy()?;
+                Ok(Some(sum))
+            }
+            Content::Array(_) => Ok(None),
+            Content::Link(_, _) => Ok(None),
+        }
+    }
+
     /// Changes the text, or that of an element; false, and nothing is done, where the content is a link.
     #[tactic(auto, using(crate::proofs::ChangeLemmas::contents))]
     pub(crate) fn change(
@@ -227,6 +247,20 @@ impl Content {
             }
         }
     }
+}
+
+// The sum of the integer that a text is and an amount, where 64 bits hold it.
+fn sum_with(alloc: Global, text: &Text, amount: i64) -> Result<Option<Text>, AllocError>
+    ensures { IfOk result (λ sum. IfSome sum (λ sum. IsSum text.now amount sum)) }
+{
+    let Some(number) = integer_in(text) else {
+        return Ok(None);
+    };
+    let Some(sum) = number.checked_add(amount) else {
+        return Ok(None);
+    };
+    let sum = Text::from_integer(alloc, sum)?;
+    Ok(Some(sum))
 }
 
 // Sets an element, with room for so many more.

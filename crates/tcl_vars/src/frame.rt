@@ -1,5 +1,6 @@
 ghost use Rattle.std.specs.Prelude.{◌≡◌, ◌≢◌, ◌+◌, ◌<◌, ◌≤◌, None, Ok, IfOk, IfErr, IfSome, MatchBool, MatchOption, OnErr};
 ghost use Rattle.std.specs.Option.{option_copied};
+ghost use Rattle.tcl_vars.specs.Add.{AddsText};
 ghost use Rattle.tcl_vars.specs.Changing.{ChangesText, KeepsText};
 ghost use Rattle.tcl_vars.specs.Put.{RefusesText, AfterPut, new_count};
 ghost use Rattle.tcl_vars.specs.Short.{IsShort, IsShortPlace};
@@ -55,6 +56,23 @@ pub(crate) fn put(
             Ok(Outcome::Added(added))
         }
         Some(content) => content.put(place.element, value, room),
+    }
+}
+
+/// Adds an amount to the integer that a variable of the frame is, and gives the sum; none, and nothing is done, where it has no text, where that is no
+/// integer, or where 64 bits don't hold the sum.
+pub(crate) fn add(
+    alloc: Global,
+    frame: &mut Frame,
+    variable: &str,
+    amount: i64,
+) -> Result<Option<Text>, AllocError>
+    ensures ok { IfOk result (λ sum. MatchOption sum (frame.new ≡ frame.old) (λ text. AddsText frame.old variable.now amount text frame.new)) }
+    ensures err { OnErr result (frame.new ≡ frame.old) }
+{
+    match frame.get_mut(variable) {
+        None => Ok(None),
+        Some(content) => content.add(alloc, amount),
     }
 }
 

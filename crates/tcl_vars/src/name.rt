@@ -76,6 +76,14 @@ fn is_bare(name: &[u8]) -> bool
     first != b':' && last != b')'
 }
 
+/// Whether a name means a variable of the frame that it is used in, which can be seen at its ends.
+#[inline(always)]
+pub(crate) fn has_no_marks(name: &Text) -> bool
+    ensures { result ≡ true → (frame : ℕ) → place_of frame name.now ≡ variable_place frame name.now }
+{
+    is_bare(name.as_str().as_bytes())
+}
+
 /// Where a name points that is used in a frame: a leading `::` means the global frame.
 #[inline(always)]
 pub(crate) fn place_of<'a>(frame: usize, name: &'a str) -> Place<'a>

@@ -1,24 +1,27 @@
 ghost use Rattle.std.specs.Prelude.{◌≡◌, ◌≢◌, ◌<◌, ◌≤◌, ◌-◌, [], ◌∷◌, ◌++◌, length, take, IfOk, IfErr, OnOk, OnErr, map, unwrap_or, is_some, false, MatchResult, MatchOption, MatchBool, Ok, Err, Some, None};
 ghost use Rattle.std.specs.Option.{option_copied};
 ghost use Rattle.std.specs.Bool.{OnTrue};
+ghost use Rattle.tcl_vars.specs.Add.{Adds};
 ghost use Rattle.tcl_vars.specs.Change.{Changes, edited_by};
 ghost use Rattle.tcl_vars.specs.Changing.{ChangesHere, ChangesThere, KeepsHere};
 ghost use Rattle.tcl_vars.specs.Put.{Sets, SetsThere};
 ghost use Rattle.tcl_vars.specs.Short.{IsShortPlace};
 ghost use Rattle.tcl_vars.specs.Shown.{shown};
 ghost use Rattle.tcl_vars.specs.Links.{IsBelow};
+ghost use Rattle.tcl_vars.specs.Name.{place_of};
 ghost use Rattle.tcl_vars.specs.Table.{weight_of};
 ghost use Rattle.tcl_vars.specs.Unset.{IsGone, Unsets, UnsetsThere};
-ghost use Rattle.tcl_vars.specs.Store.{content_at, link_of, end_of, text_at, variable_in, number_in, element_in, with_variable, with_element, without_variable, without_element, content_count, variable_count, with_content, with_link, with_array, has_variable, is_element_in, elements_in, pairs_of};
+ghost use Rattle.tcl_vars.specs.Store.{content_at, link_of, end_of, text_at, variable_in, number_in, element_in, with_variable, with_element, without_variable, without_element, content_count, variable_count, with_content, with_link, with_array, has_variable, is_element_in, elements_in, pairs_of, variable_place};
 ghost use Rattle.tcl_text.specs.Limits.{most_variables};
 
 use crate::arrays::{names_of, pairs_of};
 use crate::content::{
     Content, Outcome, array_state, elements_of, holds_value, integer_in, is_there, link_of, text_of,
 };
-use crate::frame::{Frame, change, give, put, unset, variable_count};
+use crate::frame::{Frame, add, change, give, put, unset, variable_count};
 use crate::name::{
-    OwnPlace, Place, element_place, is_given, is_plain, place_of, place_of_text, variable_place,
+    OwnPlace, Place, element_place, has_no_marks, is_given, is_plain, place_of, place_of_text,
+    variable_place,
 };
 use crate::table::Table;
 use std::alloc::{AllocError, Global};
@@ -171,6 +174,27 @@ impl Scopes {
                 Ok(())
             }
             None => Err(SetFault::NotArray),
+        }
+    }
+
+    /// Adds an amount to the integer that a variable is which a name without marks means in a frame, and gives the sum (incr(n)). None, and nothing
+    /// is done, where the name has marks or the variable is a link, where it has no integer, or where 64 bits don't hold the sum.
+    pub fn add(
+        &mut self,
+        frame: usize,
+        name: &Text,
+        amount: i64,
+    ) -> Result<Option<Text>, AllocError>
+        requires { frame < length self.old }
+        ensures ok { IfOk result (λ sum. MatchOption sum (self.new ≡ self.old) (λ text. Adds self.old frame name.now amount text self.new)) }
+        ensures err { OnErr result (self.new ≡ self.old) }
+        ensures levels { length self.new ≡ length self.old }
+    {
+        let _ = &self.frames;
+        if has_no_marks(name) {
+            self.add_unmarked(frame, name, amount)
+        } else {
+            Ok(None)
         }
     }
 
@@ -516,6 +540,25 @@ impl Scopes {
             }
             Outcome::Linked(value) => Ok(Some(value)),
         }
+    }
+
+    // Adds an amount to the integer that a variable is which a name without marks means in a frame.
+    fn add_unmarked(
+        &mut self,
+        frame: usize,
+        name: &Text,
+        amount: i64,
+    ) -> Result<Option<Text>, AllocError>
+        requires level { frame < length self.old }
+        requires unmarked { place_of frame name.now ≡ variable_place frame name.now }
+        ensures ok { IfOk result (λ sum. MatchOption sum (self.new ≡ self.old) (λ text. Adds self.old frame name.now amount text self.new)) }
+        ensures err { OnErr result (self.new ≡ self.old) }
+        ensures levels { length self.new ≡ length self.old }
+    {
+        let alloc = self.alloc;
+        let variables = &mut self.frames[frame];
+        let sum = add(alloc, variables, name.as_str(), amount)?;
+        Ok(sum)
     }
 
     // Changes the text to which a place leads.

@@ -1,5 +1,5 @@
 //! The commands of string(n), and concat(n).
-ghost use Rattle.std.specs.Prelude.{◌≡◌, ◌<◌, ◌≤◌, min, replicate, IfOk, IfSome, IfNone, OnOk, string_bytes, length};
+ghost use Rattle.std.specs.Prelude.{◌≡◌, ◌<◌, ◌≤◌, min, replicate, [], ◌∷◌, true, Ok, IfOk, IfSome, IfNone, OnOk, string_bytes, length};
 ghost use Rattle.std.specs.List.{concat};
 ghost use Rattle.std.specs.Str.{chars, encode_utf8_all, IsAscii};
 ghost use Rattle.tcl_text.specs.Answers.{Gives, answers};
@@ -223,6 +223,16 @@ fn copies(alloc: Global, text: &str, count: u64) -> Result<String, AllocError>
         string.push_str(text)?;
     }
     Ok(string)
+}
+
+impl Text {
+    /// Whether no white space is around it, so that concat(n) makes the same text of it alone. It takes no memory.
+    pub fn is_trimmed(&self) -> bool
+        ensures { result ≡ true → spec.concat_words (self.now ∷ []) ≡ Ok self.now }
+    {
+        let text = self.as_str();
+        trimmed(text) == text
+    }
 }
 
 /// `concat ?arg ..?`: the words without white space around them, those that aren't empty, with a

@@ -92,3 +92,26 @@ text_worth-returns-in-Normal-clause-ends g n c =
     let leads : (before : List (List ℕ)) → WordsLead outside c.args.room store context (drop 1 words) before found.steps [] (before ++ found.words) = rw c.in-Some.is at c.in_ok-found.ensures.leads in
     let ends : (own : Store) → EndsCall outside (name ∷ found.words) own context own Normal text = rw (c.in-Normal.is, c.as_slice-arguments.ensures) at c.in_ok-code.ensures in
     named_end outside c.args.room words store context store name found.words found.steps Normal text c.requires.name.0 c.requires.name.1 (leads (name ∷ [])) (ends store)
+
+pub script_value-returns-in-Some-Builtin-Info-clause-gives : goal.script_value-returns-in-Some-Builtin-Info-clause-gives
+script_value-returns-in-Some-Builtin-Info-clause-gives g n c =
+    let outside = g.T.Tasks.outside in
+    let store = c.args.scopes.now in
+    let context = c.args.context.now in
+    let only = c.command-item.result in
+    let parsed : script_of c.args.script.now ≡ Ok (only ∷ []) = only_command (script_of c.args.script.now) c.commands.result.now only c.commands.ensures c.in-len1.len_at_least (omega (arith, c.in-len1.len_below)) c.command-item.is in
+    IfOk-weaker c.info_worth.result _ _ (λ found ends.
+    found_gives outside c.args.room (c.args.room - 1) store context c.args.script.now only c.as_slice-words.result.now found (omega (arith, c.requires.room)) parsed c.as_slice-words.ensures ends) c.info_worth.ensures.ends
+
+pub info_worth-returns-in-Normal-clause-ends : goal.info_worth-returns-in-Normal-clause-ends
+info_worth-returns-in-Normal-clause-ends g n c =
+    let outside = g.T.Tasks.outside in
+    let found = c.in-Some.found in
+    let name = c.args.name.now in
+    let words = c.args.words.now in
+    let store = c.args.scopes.now in
+    let context = c.args.context.now in
+    let text = c.in-Some-ended.field-0.text in
+    let leads : (before : List (List ℕ)) → WordsLead outside c.args.room store context (drop 1 words) before found.steps [] (before ++ found.words) = rw c.in-Some.is at c.in_ok-found.ensures.leads in
+    let ends : EndsCall outside (name ∷ found.words) store context store Normal text = rw (c.in-Some-ended.is, c.in-Normal.is, c.as_slice-arguments.ensures) at c.in_ok-ended.ensures in
+    named_end outside c.args.room words store context store name found.words found.steps Normal text c.requires.name.0 c.requires.name.1 (leads (name ∷ [])) ends

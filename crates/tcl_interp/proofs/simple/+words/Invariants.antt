@@ -5,6 +5,9 @@ use Rattle.tcl_interp.proofs.simple.+words.Given as goal
 abbrev pub decreases-text_worth : goal.decreases-text_worth
 decreases-text_worth g l = 4 * l.depth + 3
 
+abbrev pub decreases-info_worth : goal.decreases-info_worth
+decreases-info_worth g l = 4 * l.depth + 3
+
 abbrev pub decreases-plain_words : goal.decreases-plain_words
 decreases-plain_words g l = 4 * l.depth + 2
 

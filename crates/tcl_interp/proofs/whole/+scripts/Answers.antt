@@ -53,8 +53,14 @@ run_command-returns-in-Some-Texts-clause-ok g t c =
     passed_goes g.T.Tasks.outside c.args.room (commands_in c.args.script.now) c.args.place previous waits shows c.args.scopes.now c.args.context.now c.args.scopes.now c.words_at-words.result.now c.in-Some.name.now passed.steps passed.past
     c.words_at-words.ensures c.in-Some.ensures passes) c.do_texts.ensures.ok
 
-pub run_if-returns-in-Some-Nothing-clause-ok : goal.run_if-returns-in-Some-Nothing-clause-ok
-run_if-returns-in-Some-Nothing-clause-ok g t c = λ previous waits shows.
+pub run_command-returns-in-Some-Builtin-clause-ok : goal.run_command-returns-in-Some-Builtin-clause-ok
+run_command-returns-in-Some-Builtin-clause-ok g t c =
+    IfOk-weaker c.do_leaving.result _ _ (λ passed passes. λ previous waits shows.
+    passed_goes g.T.Tasks.outside c.args.room (commands_in c.args.script.now) c.args.place previous waits shows c.args.scopes.now c.args.context.now c.args.scopes.now c.words_at-words.result.now c.in-Some.name.now passed.steps passed.past
+    c.words_at-words.ensures c.in-Some.ensures passes) c.do_leaving.ensures.ok
+
+pub run_if-returns-in-Nothing-clause-ok : goal.run_if-returns-in-Nothing-clause-ok
+run_if-returns-in-Nothing-clause-ok g t c = λ previous waits shows.
     let outside = g.T.Tasks.outside in
     let room = c.args.room in
     let place = c.args.place in
@@ -62,20 +68,23 @@ run_if-returns-in-Some-Nothing-clause-ok g t c = λ previous waits shows.
     let store = c.args.scopes.now in
     let context = c.args.context.now in
     let words = c.args.words.now in
-    let chooses : Chooses store c.here-level.result words chosen.Nothing = simp (c.in-Some-Nothing.is, c.in-Some-Nothing.field-0-is) at c.in_ok-choose_body.ensures in
-    subst (λ text. TakesSteps outside 1 (standing (moved (GoesOn room (drop place commands) previous) waits) store context) shows (standing (after_command room (drop (place + 1) commands) waits Normal text) store context) shows) (sym c.empty.ensures)
-    (if_ends outside room commands place previous c.args.name.now waits shows store context c.here-level.result words c.requires.words c.requires.name c.requires.calls c.here-level.ensures.value chooses)
+    let steps = c.in-Some.field-0.steps in
+    let chooses : Chooses outside room store context words steps chosen.Nothing = rw (c.in-Some.is, c.in-Nothing.is) at c.in_ok-found.ensures.chooses in
+    subst (λ text. TakesSteps outside (steps + 1) (standing (moved (GoesOn room (drop place commands) previous) waits) store context) shows (standing (after_command room (drop (place + 1) commands) waits Normal text) store context) shows) (sym c.empty.ensures)
+    (if_ends outside room commands place previous c.args.name.now steps waits shows store context words c.requires.words c.requires.name c.requires.calls chooses)
 
-pub run_if-returns-in_ok-past-in-Some-Body-clause-ok : goal.run_if-returns-in_ok-past-in-Some-Body-clause-ok
-run_if-returns-in_ok-past-in-Some-Body-clause-ok g t c = λ previous waits shows.
+pub run_if-returns-in_ok-past-in-Body-clause-ok : goal.run_if-returns-in_ok-past-in-Body-clause-ok
+run_if-returns-in_ok-past-in-Body-clause-ok g t c = λ previous waits shows.
+    let outside = g.T.Tasks.outside in
     let store = c.args.scopes.now in
     let context = c.args.context.now in
     let words = c.args.words.now in
-    let passed = c.in_ok-past-in-Some-Body.field-0 in
-    let body = c.in-Some-Body.body in
-    let chooses : Chooses store c.here-level.result words (chosen.Body body) = simp (c.in-Some-Body.is, c.in-Some-Body.field-0-is) at c.in_ok-choose_body.ensures in
-    if_begins g.T.Tasks.outside c.args.room (commands_in c.args.script.now) c.args.place previous c.args.name.now body waits shows store context c.here-level.result words c.run_body.new.scopes passed.steps passed.past
-    c.if-room-gt0.true c.requires.words c.requires.name c.requires.calls c.here-level.ensures.value chooses (c.in_ok-past-in-Some-Body.ensures.ok previous waits shows)
+    let steps = c.in-Some.field-0.steps in
+    let passed = c.in_ok-past-in-Body.field-0 in
+    let body = c.in-Body.body in
+    let chooses : Chooses outside c.args.room store context words steps (chosen.Body body) = rw (c.in-Some.is, c.in-Body.is) at c.in_ok-found.ensures.chooses in
+    if_begins outside c.args.room (commands_in c.args.script.now) c.args.place previous c.args.name.now body steps waits shows store context words c.run_body.new.scopes passed.steps passed.past
+    c.if-room-gt0.true c.requires.words c.requires.name c.requires.calls chooses (c.in_ok-past-in-Body.ensures.ok previous waits shows)
 
 pub run_whole-returns-in-Before-clause-ok : goal.run_whole-returns-in-Before-clause-ok
 run_whole-returns-in-Before-clause-ok g t c = λ waits shows.

@@ -78,6 +78,7 @@ class Row:
 ROWS = [
     Row("words of lists", LIST, "set e list; append e [string repeat { {*}$l} 100]; catch {eval $e}", 100 * 32_765),
     Row("lists of loops", LIST, "set e foreach; append e [string repeat { {*}$l} 100] { break}; eval $e", 50 * 32_765),
+    Row("names of loops", "set n [string repeat {a } 64]", "set e foreach; append e [string repeat { $n 1} 10000] { break}; eval $e", 10000),
     Row("words put together", TEXT, "set e list; append e [string repeat { $x.} 1000]; catch {eval $e}", 1000),
     Row("texts of loops", LIST, "set e foreach; append e [string repeat { a $l.} 100] { break}; eval $e", 100),
     Row("scripts of an event", TEXT + "; set t {}; " + times(1000, 'bind t$i <Key-x> "#[string range $x 9 end]%K"; lappend t t$i') + "; bindtags . $t", "event generate . <Key-x>", 1000),

@@ -9,6 +9,7 @@ pub mod Edits
 pub mod Groups
 pub mod IfWords
 pub mod Links
+pub mod Names
 pub mod Parameters
 pub mod Refusals
 pub mod Shapes

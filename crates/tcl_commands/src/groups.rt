@@ -5,14 +5,15 @@ ghost use Rattle.tcl_commands.specs.Ahead.{FollowsGroup};
 ghost use Rattle.tcl_commands.specs.Groups.{group_named, group_of, groups_from, groups_of, has_body, has_more};
 
 use crate::listing::Listing;
+use crate::names::Names;
 use std::alloc::{AllocError, Global};
-use tcl_text::{ListItems, SplitFault, Text, TextList};
+use tcl_text::{ListItems, SplitFault, Text};
 
 /// A list of names of `foreach`, and the items of its list that are left (foreach(n)).
 #[derive(Drop)]
 pub struct Group {
     /// The variables that take the items, one each in an iteration.
-    pub names: TextList,
+    pub names: Names,
     /// The items of the iterations to come.
     pub items: ListItems,
 }
@@ -30,11 +31,7 @@ impl Listing<Group> {
 }
 
 /// A list of items behind its names, or the error's text.
-fn group_named(
-    alloc: Global,
-    names: TextList,
-    items: &Text,
-) -> Result<Result<Group, Text>, AllocError>
+fn group_named(alloc: Global, names: Names, items: &Text) -> Result<Result<Group, Text>, AllocError>
     ensures { IfOk result (λ group. group ≡ group_named names (list_of items.now)) }
 {
     match items.list_items(alloc) {
@@ -48,9 +45,9 @@ fn group_named(
 fn group_of(alloc: Global, names: &Text, items: &Text) -> Result<Result<Group, Text>, AllocError>
     ensures { IfOk result (λ group. group ≡ group_of (list_of names.now) (list_of items.now)) }
 {
-    match names.split_list(alloc) {
+    match Names::of(alloc, names) {
         Ok(names) => {
-            if names.is_empty() {
+            if !names.has_some() {
                 return Ok(Err(Text::of_short(alloc, "foreach varlist is empty")?));
             }
             group_named(alloc, names, items)

@@ -9,6 +9,7 @@ mod groups;
 pub mod laws;
 mod links;
 mod listing;
+mod names;
 mod parameters;
 mod texts;
 mod unset;
@@ -22,5 +23,6 @@ pub use commands::{
 pub use groups::{Group, Groups, foreach_groups, has_body};
 pub use links::UPVAR_USAGE;
 pub use listing::Listing;
+pub use names::{Names, NamesForm};
 pub use parameters::{Parameter, Parameters, parameters_in};
 pub use texts::cannot_set;

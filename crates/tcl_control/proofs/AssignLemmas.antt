@@ -1,5 +1,6 @@
 -- Names are given the items that are taken, one after another, and the empty text where there is none.
-use Rattle.std.proofs.Common.{◌≡◌, ℕ, zero, suc, ◌<◌, List, [], ◌∷◌, ◌++◌, map, take, drop, length, get_or, Option, Some, None, Result, Ok, Err, refl, arith, ap, sym, ◌∙◌}
+use Rattle.std.proofs.Common.{◌≡◌, ℕ, zero, suc, ◌+◌, ◌<◌, List, [], ◌∷◌, ◌++◌, map, take, drop, length, get_or, Option, Some, None, Result, Ok, Err, refl, arith, ap, sym, ◌∙◌}
+use Rattle.std.proofs.lemmas.List.{drop-drop}
 use Rattle.tcl_vars.specs.Store.{Store, with_variable}
 use Rattle.tcl_table.specs.Texts.{cannot_set_text}
 use Rattle.tcl_control.specs.Assign.{Assigned, done, on_set, first_item, assigned, on_assigned}
@@ -31,6 +32,19 @@ name_goes frame name names items left value before after refused none set is beh
     set_goes name before after (assigned frame names left) (with_variable before frame name value) (ap (λ (text : Option (List ℕ)). let all : Assigned = record { store = after; refused = text } in all) (sym none) ∙ set)
     ∙ ap (λ (others : List (List ℕ)). on_set name before (assigned frame names others) (with_variable before frame name value)) behind
     ∙ ap (λ (first : List ℕ). on_set name before (assigned frame names (drop 1 items)) (with_variable before frame name first)) is
+
+-- the first of the names that are left could be set
+pub name_read : (frame : ℕ) (rest others : List (List ℕ)) (name : List ℕ) (items left : List (List ℕ)) (value : List ℕ) (before after : Store) (refused : Option (List ℕ)) → rest ≡ name ∷ others → refused ≡ None
+    → record { store = after; refused = refused } ≡ on_set name before done (with_variable before frame name value) → value ≡ first_item items → left ≡ drop 1 items
+    → assigned frame others left after ≡ assigned frame rest items before
+name_read frame rest others name items left value before after refused cut none set is behind =
+    name_goes frame name others items left value before after refused none set is behind ∙ ap (λ (those : List (List ℕ)). assigned frame those items before) (sym cut)
+
+-- it has taken its item
+pub items_left : (rest others : List (List ℕ)) (name : List ℕ) (items left : List (List ℕ)) → rest ≡ name ∷ others → left ≡ drop 1 items → drop (length others) left ≡ drop (length rest) items
+items_left rest others name items left cut behind =
+    let count : 1 + length others ≡ length rest = omega (arith, ap length cut) in
+    ap (λ (those : List (List ℕ)). drop (length others) those) behind ∙ drop-drop (length others) 1 items ∙ ap (λ (number : ℕ). drop number items) count
 
 -- a group, each of whose names could be set
 pub group_goes : (rest : Store → Assigned) (after : Store) (refused : Option (List ℕ)) (all : Assigned) → refused ≡ None → record { store = after; refused = refused } ≡ all → rest after ≡ on_assigned rest all

@@ -4,7 +4,7 @@ ghost use Rattle.tcl_commands.specs.Groups.{advanced};
 ghost use Rattle.tcl_control.specs.Assign.{done, on_set, first_item, assigned, groups_assigned};
 
 use std::alloc::{AllocError, Global};
-use tcl_commands::Group;
+use tcl_commands::{Group, NamesForm};
 use tcl_text::{ListItems, Text};
 use tcl_vars::{Scopes, SetFault};
 
@@ -62,6 +62,29 @@ fn assign_names(
     Ok(None)
 }
 
+/// Gives names that are read from their list the items that are left, and takes these.
+fn assign_read(
+    alloc: Global,
+    scopes: &mut Scopes,
+    frame: usize,
+    names: ListItems,
+    items: &mut ListItems,
+) -> Result<Option<Text>, AllocError>
+    requires { frame < length scopes.old }
+    ensures set { IfOk result (λ refused. record { store = scopes.new; refused = refused } ≡ assigned frame names items.old scopes.old) }
+    ensures left { IfOk result (λ refused. refused ≡ None → items.new ≡ drop (length names) items.old) }
+    ensures levels { length scopes.new ≡ length scopes.old }
+{
+    let mut rest = names;
+    while let Some(name) = rest.take_first(alloc)? {
+        let value = next_value(alloc, items)?;
+        if let Some(text) = set_one(alloc, scopes, frame, &name, value)? {
+            return Ok(Some(text));
+        }
+    }
+    Ok(None)
+}
+
 /// Gives the names of a group the items of an iteration, and takes these.
 fn assign_group(
     alloc: Global,
@@ -75,13 +98,14 @@ fn assign_group(
     ensures left { IfOk result (λ refused. refused ≡ None → group.new ≡ advanced group.old) }
     ensures levels { length scopes.new ≡ length scopes.old }
 {
-    assign_names(
-        alloc,
-        scopes,
-        frame,
-        group.names.as_slice(),
-        &mut group.items,
-    )
+    match group.names.form() {
+        NamesForm::Few(names) => {
+            assign_names(alloc, scopes, frame, names.as_slice(), &mut group.items)
+        }
+        NamesForm::Many(names) => {
+            assign_read(alloc, scopes, frame, names.copy()?, &mut group.items)
+        }
+    }
 }
 
 /// Gives the names of groups the items of an iteration, and takes these. Where a name can't be set, or memory is refused, the groups

@@ -43,6 +43,16 @@ impl ListCursor {
         Ok(ListCursor { text, place })
     }
 
+    /// The items that are left, once more, of the same text.
+    pub fn copy(&self) -> Result<ListCursor, AllocError>
+        ensures { IfOk result (λ items. items ≡ self.now) }
+    {
+        Ok(ListCursor {
+            text: self.text.copy()?,
+            place: self.place,
+        })
+    }
+
     /// Whether items are left. It takes no memory.
     pub fn has_more(&self) -> bool
         ensures { result ≡ nat_lt 0 (length self.now) }

@@ -55,6 +55,16 @@ impl Model for ListItems {
 }
 
 impl KeptItems {
+    /// The same items, of the same list.
+    fn copy(&self) -> Result<KeptItems, AllocError>
+        ensures { IfOk result (λ items. items ≡ self.now) }
+    {
+        Ok(KeptItems {
+            list: self.list.clone()?,
+            taken: self.taken,
+        })
+    }
+
     /// Whether items are left.
     fn has_more(&self) -> bool
         ensures { result ≡ nat_lt 0 (length self.now) }
@@ -78,6 +88,18 @@ impl KeptItems {
 }
 
 impl ListItems {
+    /// The items that are left, once more, of the same list or text. It takes no memory; it is refused only where the count of what is shared
+    /// is full.
+    pub fn copy(&self) -> Result<ListItems, AllocError>
+        ensures { IfOk result (λ items. items ≡ self.now) }
+    {
+        let form = match &self.form {
+            ItemsForm::Kept(items) => ItemsForm::Kept(items.copy()?),
+            ItemsForm::Read(items) => ItemsForm::Read(items.copy()?),
+        };
+        Ok(ListItems { form })
+    }
+
     /// Whether items are left. It takes no memory.
     pub fn has_more(&self) -> bool
         ensures { result ≡ nat_lt 0 (length self.now) }

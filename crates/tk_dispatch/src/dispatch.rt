@@ -1,13 +1,14 @@
 //! The choice of scripts.
-ghost use Rattle.std.specs.Prelude.{◌≡◌, IfOk, OnOk};
+ghost use Rattle.std.specs.Prelude.{◌≡◌, ℕ, List, Option, Ok, IfOk, OnOk, option_map};
+ghost use Rattle.tcl_text.specs.Answers.{Answer};
 ghost use Rattle.tk_dispatch.specs.Dispatch.{script_of, scripts_for, scripts_of, with_fields};
-ghost use Rattle.tk_dispatch.specs.Made.{AreMade};
+ghost use Rattle.tk_dispatch.specs.Made.{AreChosen, AreMade};
 ghost use Rattle.tk_patterns.specs.Shared as bindings_of;
 ghost use Rattle.tk_tree.specs.Shared as windows_of;
 ghost use Rattle.tk_virtual.specs.Virtual.{meanings_of};
 ghost use Rattle.tk_virtual.specs.Shared as virtuals_of;
 
-use crate::made::{keep_long, made_for};
+use crate::made::{chosen_for, keep_chosen, keep_long, made_for};
 use crate::substitute;
 use crate::tag::is_live;
 use std::alloc::{AllocError, Global};
@@ -20,7 +21,7 @@ use tk_sequences::Event;
 use tk_tree::Windows;
 use tk_virtual::{VirtualPairs, VirtualTable};
 
-/// So many tags each look at the sequences of virtual events by themselves.
+/// So many tags each look at the sequences of virtual events by themselves, and what is chosen for one isn't kept for another.
 const FEW_TAGS: usize = 4;
 
 /// What the choice for an event looks at.
@@ -103,16 +104,79 @@ fn scripts_of(
         (meanings_of choice.now.virtuals.now) (bindings_of.own_of choice.now.owner choice.now.bindings.now)
         choice.now.history.now choice.now.event.now tags.now) }
 {
+    let many = tags.len() > FEW_TAGS;
     let mut scripts = TextList::new(alloc);
     let mut made = HashMap::new(alloc);
+    let mut chosen = HashMap::new(alloc);
     for tag in tags {
-        match script_once(alloc, choice, &mut made, tag.as_str())? {
+        match next_script(alloc, choice, &mut made, &mut chosen, many, tag.as_str())? {
             Some(Ok(script)) => scripts.push(script)?,
             Some(Err(text)) => return Ok(Err(text)),
             None => {}
         }
     }
     Ok(Ok(scripts))
+}
+
+/// The script of a tag, if one is to run. Where there are many tags, it isn't chosen again while what was chosen for one of its name is kept.
+fn next_script<'a>(
+    alloc: Global,
+    choice: &Choice<'_>,
+    made: &mut HashMap<&'a str, Text>,
+    chosen: &mut HashMap<&'a str, Option<Text>>,
+    many: bool,
+    tag: &'a str,
+) -> Result<Option<Result<Text, Text>>, AllocError>
+    requires made { AreMade (script_of (windows_of.own_of choice.now.owner choice.now.windows.now)
+        (meanings_of choice.now.virtuals.now) (bindings_of.own_of choice.now.owner choice.now.bindings.now)
+        choice.now.history.now choice.now.event.now) made.old }
+    requires chosen { AreChosen (script_of (windows_of.own_of choice.now.owner choice.now.windows.now)
+        (meanings_of choice.now.virtuals.now) (bindings_of.own_of choice.now.owner choice.now.bindings.now)
+        choice.now.history.now choice.now.event.now) chosen.old }
+    ensures script { IfOk result (λ script. script ≡ script_of (windows_of.own_of choice.now.owner choice.now.windows.now)
+        (meanings_of choice.now.virtuals.now) (bindings_of.own_of choice.now.owner choice.now.bindings.now)
+        choice.now.history.now choice.now.event.now tag.now) }
+    ensures made { OnOk result (AreMade (script_of (windows_of.own_of choice.now.owner choice.now.windows.now)
+        (meanings_of choice.now.virtuals.now) (bindings_of.own_of choice.now.owner choice.now.bindings.now)
+        choice.now.history.now choice.now.event.now) made.new) }
+    ensures chosen { OnOk result (AreChosen (script_of (windows_of.own_of choice.now.owner choice.now.windows.now)
+        (meanings_of choice.now.virtuals.now) (bindings_of.own_of choice.now.owner choice.now.bindings.now)
+        choice.now.history.now choice.now.event.now) chosen.new) }
+{
+    if !many {
+        return script_once(alloc, choice, made, tag);
+    }
+    if let Some(script) = chosen_for(chosen, tag)? {
+        return Ok(to_run(script));
+    }
+    let script = script_once(alloc, choice, made, tag)?;
+    keep_choice(chosen, tag, &script)?;
+    Ok(script)
+}
+
+/// What was chosen, as a script that could be made.
+fn to_run(script: Option<Text>) -> Option<Result<Text, Text>>
+    ensures { result ≡ option_map Ok script }
+{
+    match script {
+        Some(script) => Some(Ok(script)),
+        None => None,
+    }
+}
+
+/// Keeps what was chosen for a tag, unless it is refused, which ends the choice.
+fn keep_choice<'a>(
+    chosen: &mut HashMap<&'a str, Option<Text>>,
+    tag: &'a str,
+    script: &Option<Result<Text, Text>>,
+) -> Result<(), AllocError>
+    ensures { OnOk result ((runs : List ℕ → Option Answer) → runs tag.now ≡ script.now → AreChosen runs chosen.old → AreChosen runs chosen.new) }
+{
+    match script {
+        Some(Ok(script)) => keep_chosen(chosen, tag, Some(script.copy()?)),
+        None => keep_chosen(chosen, tag, None),
+        Some(Err(_)) => Ok(()),
+    }
 }
 
 /// The script of a tag, if one is to run. A long one is made for the first tag of a name, and shared by the others.

@@ -1,6 +1,6 @@
 -- Moves of the pointer on its way, one after another.
 use Rattle.std.proofs.Common.{◌≡◌, ℕ, zero, suc, ◌-◌, ◌<◌, ◌≤◌, [], ◌∷◌, refl, ap, arith}
-use Rattle.panels.specs.declared.gesture.Spot.{Spot}
+use Rattle.panels.specs.declared.screen.Spot.{Spot}
 use Rattle.panels.specs.Gestures.{moved, passing, spot_nearer}
 
 -- one move more is made

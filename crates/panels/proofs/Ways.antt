@@ -9,7 +9,7 @@ use Rattle.tk_host.specs.Held.{AdvanceTo, Call, HostState, LineAt, held_after}
 use Rattle.tk_session.specs.declared.session.EventLine.{EventLine}
 use Rattle.panels.specs.declared.bench.Entry.{Entry}
 use Rattle.panels.specs.declared.course.Course.{Course}
-use Rattle.panels.specs.Gestures.{came}
+use Rattle.panels.specs.Screens.{came}
 use Rattle.panels.specs.Course.{IsAt, Way, advanced, entered, handed, handed_all, went, with_found}
 use Rattle.panels.specs.Looks.{ToldFinding, told}
 

@@ -17,13 +17,13 @@ use Rattle.panels.specs.declared.bench.Bench.{Bench}
 use Rattle.panels.specs.declared.bench.Entry.{Entry}
 use Rattle.panels.specs.declared.bench.Gesture.{Gesture}
 use Rattle.panels.specs.declared.bench.Gesture.TheVariants.{Pointer, Keys, Lines}
-use Rattle.panels.specs.declared.finding.Found.{Found}
 use Rattle.panels.specs.declared.finding.Found.TheVariants.{Missed}
 use Rattle.panels.specs.declared.pane.Miss.{Miss}
 use Rattle.panels.specs.declared.course.Course.{Course}
-use Rattle.panels.specs.declared.gesture.Spot.{Spot}
+use Rattle.panels.specs.declared.screen.Spot.{Spot}
 use Rattle.panels.specs.Asked.{NothingTold, answer_to}
-use Rattle.panels.specs.Gestures.{came, outcome_of}
+use Rattle.panels.specs.Gestures.{outcome_of}
+use Rattle.panels.specs.Screens.{came}
 use Rattle.panels.specs.Looks.{ToldFinding, told, unseen_from}
 
 -- How far a bench has come: the calls of its host, what is known of the screen, the lines that its gestures became, and what was found.

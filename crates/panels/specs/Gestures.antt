@@ -11,7 +11,7 @@ use Rattle.panels.specs.declared.bench.Touch.{Touch}
 use Rattle.panels.specs.declared.bench.Touch.TheVariants as touches
 use Rattle.panels.specs.declared.gesture.Outcome.{Outcome}
 use Rattle.panels.specs.declared.gesture.Outcome.TheVariants as outcomes
-use Rattle.panels.specs.declared.gesture.Spot.{Spot}
+use Rattle.panels.specs.declared.screen.Spot.{Spot}
 use Rattle.panels.specs.declared.pane.Landing.{Landing}
 use Rattle.panels.specs.declared.pane.Landing.TheVariants.{At, Missed}
 use Rattle.panels.specs.declared.pane.Miss.{Miss}
@@ -37,11 +37,6 @@ placed rect point = record { x = min (rect.x + point.x) 65535; y = min (rect.y +
 
 abbrev pub moved : Spot → HostLine
 moved spot = Move spot.x spot.y
-
--- where the pointer is after a line
-abbrev pub came : HostLine → Option Spot → Option Spot
-came (Move x y) before = Some (record { x = x; y = y })
-came line before = before
 
 -- where a move comes from one place on the way to another, where so many are left with it: it goes its share of what is left of the way
 abbrev pub nearer : ℕ → ℕ → ℕ → ℕ

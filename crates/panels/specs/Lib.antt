@@ -9,6 +9,7 @@ pub mod Panes
 pub mod Picture
 pub mod Played
 pub mod Refusals
+pub mod Screens
 pub mod Shapes
 pub mod Typing
 pub mod Verdict

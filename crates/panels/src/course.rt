@@ -2,7 +2,7 @@
 
 use crate::ending::Ending;
 use crate::finding::Finding;
-use crate::gesture::Screen;
+use crate::screen::Screen;
 use tk_session::EventLine;
 
 /// What has happened so far.

@@ -1,12 +1,12 @@
 //! What a person does, as lines of a session.
 
 ghost use Rattle.std.specs.Prelude.{◌≡◌, ◌≤◌, ◌+◌, ◌++◌, min, IfOk, OnOk};
-ghost use Rattle.panels.specs.Gestures.{came, focusing, moved, nearer, outcome_at, outcome_of, passing, placed, pointed, rect_at, told_by, touched, way_to};
+ghost use Rattle.panels.specs.Gestures.{focusing, moved, nearer, outcome_at, outcome_of, passing, placed, pointed, rect_at, told_by, touched, way_to};
 ghost use Rattle.panels.specs.Panes.{windows_in};
-ghost use Rattle.tk_route.specs.Lines.{focus_by, rects_by};
 
 use crate::bench::{Gesture, Pointing, Touch};
 use crate::pane::{Landing, Miss, Point, landing_at};
+use crate::screen::{Screen, Spot};
 use crate::words::lines_with;
 use std::alloc::{AllocError, Global};
 use tk_base::Rect;
@@ -17,42 +17,6 @@ use tk_session::HostLine;
 pub(crate) enum Outcome {
     Lines(Vec<HostLine>),
     Missed(Miss),
-}
-
-/// A place of the pointer, in pixels from the screen's upper left corner.
-#[derive(Clone, Copy)]
-pub(crate) struct Spot {
-    pub x: u32,
-    pub y: u32,
-}
-
-/// What is known of the screen: the panels' rectangles by their slots, which panel has the keyboard, and where the pointer is, if it has come somewhere.
-#[derive(Drop)]
-pub(crate) struct Screen {
-    pub rects: Vec<Rect>,
-    pub keys: Option<usize>,
-    pub pointer: Option<Spot>,
-}
-
-impl Screen {
-    /// A line changes what is known.
-    pub(crate) fn take(&mut self, line: HostLine)
-        ensures rects { self.new.rects.items ≡ rects_by line self.old.rects.items }
-        ensures keys { self.new.keys ≡ focus_by line self.old.keys }
-        ensures pointer { self.new.pointer ≡ came line self.old.pointer }
-    {
-        match line {
-            HostLine::Move { x, y } => self.pointer = Some(Spot { x, y }),
-            HostLine::Focus(slot) => self.keys = slot,
-            HostLine::Rect { slot, rect } => {
-                if slot < self.rects.len() {
-                    self.rects[slot] = rect;
-                }
-            }
-            HostLine::Press(_) | HostLine::Release(_) | HostLine::Keydown(_) | HostLine::Keyup(_) =>
-                {}
-        }
-    }
 }
 
 /// The rectangle of a slot that no panel has.

@@ -8,7 +8,6 @@ ghost use Rattle.tkhost.specs.Sections.{program_sections};
 ghost use Rattle.tk_host.specs.Held.{Call, Start, held_after};
 ghost use Rattle.tk_host.specs.Refusals.{RefusesLine, line_faults};
 ghost use Rattle.tk_route.specs.Refusals.{IsFirst, NoneApplies};
-ghost use Rattle.tk_session.specs.Session.{rects_of};
 ghost use Rattle.tk_alias.specs.Services.{answer_of};
 ghost use Rattle.tk_alias.specs.declared.service.Service.{Service};
 ghost use Rattle.tkhost.specs.Calls.{adding};
@@ -24,12 +23,12 @@ use crate::bench::{Act, Answer, Bench, Entry, Gesture};
 use crate::course::Course;
 use crate::ending::{Ending, endings_of};
 use crate::finding::{Finding, Found};
-use crate::gesture::{Outcome, Screen, outcome_of};
+use crate::gesture::{Outcome, outcome_of};
 use crate::look::push_unseen;
+use crate::screen::Screen;
 use crate::verdict::sections_of;
 use std::alloc::{AllocError, AllocFailed, Global};
 use tcl_text::Text;
-use tk_base::Rect;
 use tk_host::{AliasCode, AliasService, Aliases, Host, HostFault};
 use tk_session::{
     AppBlock, EventLine, HostLine, LineFault, ServiceKind, Session, WritingFault, write_session,
@@ -282,17 +281,6 @@ pub(crate) fn started<M: AliasService>(
     }
 }
 
-/// The rectangles of panels.
-fn rects_of(alloc: Global, panels: &[AppBlock]) -> Result<Vec<Rect>, AllocError>
-    ensures { IfOk result (λ rects. rects.items ≡ rects_of panels.now) }
-{
-    let mut rects = Vec::new(alloc);
-    for panel in panels {
-        rects.push(panel.rect)?;
-    }
-    Ok(rects)
-}
-
 /// Comes to the end of a bench. An end before the last line is refused where the session is written.
 fn come_to_end<M: AliasService>(host: &mut Host<M>, end: u64) -> Result<(), BenchFault>
     requires begun { host.old.held.phase ≢ Phase.Adding }
@@ -319,11 +307,7 @@ fn course_of<M: AliasService>(
     ensures refused { IfErr result (RefusedAmong M.answer 0 bench.now.entries.items (begun session.now.apps aliases.items)) }
 {
     let mut course = Course {
-        screen: Screen {
-            rects: rects_of(alloc, session.apps())?,
-            keys: None,
-            pointer: None,
-        },
+        screen: Screen::new(alloc, session.apps())?,
         events: Vec::new(alloc),
         findings: Vec::new(alloc),
         endings: Vec::new(alloc),

@@ -1,6 +1,6 @@
 -- Lemmas on the shapes of values: texts that have to be there, and arrays that have too few or too many items.
 use Rattle.std.proofs.Common.{◌≡◌, ℕ, ◌<◌, ◌≤◌, List, [], ◌∷◌, length, Option, Some, None, Result, Ok, Err, Bor, IfOk, refl, arith}
-use Rattle.toml.specs.Data.{Data, array, boolean, datetime, float, integer, string, table}
+use Rattle.toml.specs.Data.{Data, string}
 use Rattle.toml.specs.View.{items_view}
 use Rattle.toml.specs.declared.value.Value.{Value}
 use Rattle.panels_bench.specs.Sights.{place_of}
@@ -10,12 +10,7 @@ use Rattle.panels_text.specs.declared.failure.Failure.{Failure}
 text_is : (value : Option Data) (text : List ℕ) → text_in value ≡ Some text → value ≡ Some (string text)
 text_is None text is = cc
 text_is (Some (string own)) text is = cc
-text_is (Some (integer number)) text is = cc
-text_is (Some (float number)) text is = cc
-text_is (Some (boolean flag)) text is = cc
-text_is (Some (datetime moment)) text is = cc
-text_is (Some (array items)) text is = cc
-text_is (Some (table own)) text is = cc
+text_is value text is = cc
 
 pub text_needed : (result : Result (Bor (List ℕ)) Failure) (value : Option Data) → Says (λ text. text.now) result (text_in value) → IfOk result (λ text. value ≡ Some (string text.now))
 text_needed (Ok text) value said = text_is value text.now said
@@ -27,22 +22,13 @@ pair_short most (one ∷ []) lt = refl
 pair_short most (one ∷ other ∷ others) lt = absurd (omega (arith, lt))
 
 pub pair_long : (most : ℕ) (values : List Value) → 3 ≤ length values → None ≡ pair_of most (items_view values)
-pair_long most [] le = refl
-pair_long most (one ∷ []) le = refl
 pair_long most (one ∷ other ∷ []) le = absurd (omega (arith, le))
-pair_long most (one ∷ other ∷ third ∷ others) le = refl
+pair_long most values le = refl
 
 pub place_short : (values : List Value) → length values < 4 → None ≡ place_of (items_view values)
-place_short [] lt = refl
-place_short (x ∷ []) lt = refl
-place_short (x ∷ y ∷ []) lt = refl
-place_short (x ∷ y ∷ width ∷ []) lt = refl
 place_short (x ∷ y ∷ width ∷ height ∷ others) lt = absurd (omega (arith, lt))
+place_short values lt = refl
 
 pub place_long : (values : List Value) → 5 ≤ length values → None ≡ place_of (items_view values)
-place_long [] le = refl
-place_long (x ∷ []) le = refl
-place_long (x ∷ y ∷ []) le = refl
-place_long (x ∷ y ∷ width ∷ []) le = refl
 place_long (x ∷ y ∷ width ∷ height ∷ []) le = absurd (omega (arith, le))
-place_long (x ∷ y ∷ width ∷ height ∷ other ∷ others) le = refl
+place_long values le = refl

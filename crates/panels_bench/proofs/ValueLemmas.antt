@@ -3,7 +3,7 @@ use Rattle.std.proofs.Common.{◌≡◌, ◌≢◌, ℕ, suc, ◌+◌, ◌<◌, 
 use Rattle.std.proofs.lemmas.List.{append-nil, drop_more}
 use Rattle.std.specs.Prelude.{is_some}
 use Rattle.toml.proofs.Views.{items_view-drop}
-use Rattle.toml.specs.Data.{Data, Items, item, Members, member, array, boolean, datetime, float, integer, string, table}
+use Rattle.toml.specs.Data.{Data, Items, item, Members, member, boolean, string}
 use Rattle.toml.specs.View.{items_view, members_view, view}
 use Rattle.toml.specs.declared.value.Value.{Value}
 use Rattle.panels_bench.specs.Values.{Says, all_said, flag_if, number_if, onto, text_if, text_in}
@@ -15,12 +15,7 @@ use Rattle.panels_text.specs.declared.failure.Failure.{Failure}
 no_text : (value : Option Data) → may_be_text value ≡ false → text_if value ≡ None
 no_text None is = cc
 no_text (Some (string text)) is = cc
-no_text (Some (integer number)) is = refl
-no_text (Some (float number)) is = refl
-no_text (Some (boolean flag)) is = refl
-no_text (Some (datetime moment)) is = refl
-no_text (Some (array items)) is = refl
-no_text (Some (table own)) is = refl
+no_text value is = refl
 
 pub text_said : (result : Result (Option (Bor (List ℕ))) Failure) (value : Option Data) → IfOk result (λ text. option_map (λ own. string own.now) text ≡ value) → OnErr result (may_be_text value ≡ false)
     → Says (option_map (λ text. text.now)) result (text_if value)
@@ -30,13 +25,8 @@ text_said (Err failure) value ok other = λ said. no_text value other
 
 no_flag : (value : Option Data) → may_be_boolean value ≡ false → flag_if value ≡ None
 no_flag None is = cc
-no_flag (Some (string text)) is = refl
-no_flag (Some (integer number)) is = refl
-no_flag (Some (float number)) is = refl
 no_flag (Some (boolean flag)) is = cc
-no_flag (Some (datetime moment)) is = refl
-no_flag (Some (array items)) is = refl
-no_flag (Some (table own)) is = refl
+no_flag value is = refl
 
 pub flag_said : (result : Result (Option Bool) Failure) (value : Option Data) → IfOk result (λ found. option_map boolean found ≡ value) → OnErr result (may_be_boolean value ≡ false) → Says (λ flag. flag) result (flag_if value)
 flag_said (Ok None) value ok other = ap flag_if (sym ok)
@@ -61,32 +51,15 @@ number_said most (Err failure) value ok other there = λ said. number_there most
 pub text_there : (value : Option Data) (text : List ℕ) → text_if value ≡ Some (Some text) → text_in value ≡ Some text
 text_there None text is = cc
 text_there (Some (string own)) text is = cc
-text_there (Some (integer number)) text is = cc
-text_there (Some (float number)) text is = cc
-text_there (Some (boolean flag)) text is = cc
-text_there (Some (datetime moment)) text is = cc
-text_there (Some (array items)) text is = cc
-text_there (Some (table own)) text is = cc
+text_there value text is = cc
 
 pub text_missing : (value : Option Data) → text_if value ≡ Some None → text_in value ≡ None
-text_missing None is = refl
 text_missing (Some (string own)) is = cc
-text_missing (Some (integer number)) is = refl
-text_missing (Some (float number)) is = refl
-text_missing (Some (boolean flag)) is = refl
-text_missing (Some (datetime moment)) is = refl
-text_missing (Some (array items)) is = refl
-text_missing (Some (table own)) is = refl
+text_missing value is = refl
 
 pub text_wrong : (value : Option Data) → text_if value ≡ None → text_in value ≡ None
-text_wrong None is = refl
 text_wrong (Some (string own)) is = cc
-text_wrong (Some (integer number)) is = refl
-text_wrong (Some (float number)) is = refl
-text_wrong (Some (boolean flag)) is = refl
-text_wrong (Some (datetime moment)) is = refl
-text_wrong (Some (array items)) is = refl
-text_wrong (Some (table own)) is = refl
+text_wrong value is = refl
 
 -- a refusal that is handed on
 pub says_err : {T A : Type 0} (view : T → A) (result : Result T Failure) (said : Option A) (failure : Failure) → result ≡ Err failure → (IsSaid failure → said ≡ None) → Says view result said

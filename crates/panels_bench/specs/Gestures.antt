@@ -60,11 +60,9 @@ aim_in panels members window x y = do
   Some (record { slot = slot; window = path; x = across; y = down })
 
 abbrev pub presses : Touch → Bool
-presses Click = true
-presses DoubleClick = true
-presses Press = true
 presses Release = false
 presses Move = false
+presses touch = true
 
 -- the pointer comes there at once, and the panel is given the keyboard where a button is pressed, unless the table says otherwise
 abbrev pub pointing_in : List AppBlock → Touch → Members → Option Deed

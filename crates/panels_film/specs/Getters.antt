@@ -14,7 +14,7 @@ use Rattle.panels.specs.Panes.{has_point}
 use Rattle.panels.specs.Shapes.{Drawn, shapes_of}
 use Rattle.panels_film.specs.declared.pointed.Getter.{Getter}
 use Rattle.panels_film.specs.declared.pointed.Getter.TheVariants as getters
-use Rattle.panels_film.specs.declared.screens.Spot.{Spot}
+use Rattle.panels.specs.declared.screen.Spot.{Spot}
 use Rattle.panels_film.specs.Screens.{Known}
 use Rattle.panels_text.specs.Lines.{name_at}
 use Rattle.panels_text.specs.Texts.{text_of}

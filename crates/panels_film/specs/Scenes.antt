@@ -9,7 +9,7 @@ use Rattle.panels.specs.declared.drawing.DrawnPanel.{DrawnPanel}
 use Rattle.panels.specs.declared.drawing.DrawnWindow.{DrawnWindow}
 use Rattle.panels.specs.declared.drawing.Scene.{Scene}
 use Rattle.panels_film.specs.declared.film.Frame.{Frame}
-use Rattle.panels_film.specs.declared.screens.Spot.{Spot}
+use Rattle.panels.specs.declared.screen.Spot.{Spot}
 use Rattle.panels_film.specs.Screens.{Known, after, at_first, holding, holding_lines, pixel}
 
 -- the place of a window, and what its section tells of it

@@ -12,8 +12,7 @@ ghost use Rattle.panels_film.specs.Screens.{at_first, known};
 
 use crate::playing::{begun, hand_line, reach, sections_now};
 use crate::pointed::{Getter, getter_of};
-use crate::screens::Screen;
-use panels::{Live, live_with};
+use panels::{Live, Screen, live_with};
 use std::alloc::{AllocError, Global};
 use tcl_text::Text;
 use tk_host::{AliasCode, AliasService};

@@ -11,8 +11,7 @@ ghost use Rattle.panels_film.specs.Getters.{at_window, came_to, focus_in, getter
 ghost use Rattle.panels_film.specs.Screens.{known};
 
 use crate::playing::section_of;
-use crate::screens::{Screen, Spot};
-use panels::{Answer, Live, Question, Shape, shapes};
+use panels::{Answer, Live, Question, Screen, Shape, Spot, shapes};
 use panels_text::{as_text, name_at};
 use std::alloc::{AllocError, Global};
 use tk_base::Rect;

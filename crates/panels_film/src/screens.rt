@@ -1,71 +1,12 @@
 //! What is known of a screen.
 
-ghost use Rattle.std.specs.Prelude.{◌≡◌, [], IfOk};
-ghost use Rattle.tk_session.specs.Session.{rects_of};
-ghost use Rattle.panels_film.specs.Screens.{after, at_first, grown, holding, holding_lines, known, pixel, placed, taken};
+ghost use Rattle.std.specs.Prelude.{◌≡◌, IfOk};
+ghost use Rattle.panels_film.specs.Screens.{after, at_first, grown, holding, holding_lines, known, pixel, placed};
 
+use panels::Screen;
 use std::alloc::{AllocError, Global};
 use tk_base::Rect;
 use tk_session::{AppBlock, EventLine, HostLine};
-
-/// A place of the pointer, in pixels from the screen's upper left corner.
-#[derive(Clone, Copy, Debug, PartialEq, Eq)]
-pub struct Spot {
-    pub x: u32,
-    pub y: u32,
-}
-
-/// What is known of a screen after lines.
-#[derive(Drop)]
-pub struct Screen {
-    /// The panels' rectangles by their slots.
-    pub rects: Vec<Rect>,
-    /// The panel that has the keyboard.
-    pub keys: Option<usize>,
-    /// Where the pointer is, if it has come somewhere.
-    pub pointer: Option<Spot>,
-}
-
-/// The rectangles of panels.
-fn rects_of(alloc: Global, panels: &[AppBlock]) -> Result<Vec<Rect>, AllocError>
-    ensures { IfOk result (λ rects. rects.items ≡ rects_of panels.now) }
-{
-    let mut rects = Vec::new(alloc);
-    for panel in panels {
-        rects.push(panel.rect)?;
-    }
-    Ok(rects)
-}
-
-impl Screen {
-    /// What is known before the first line. An error where memory is refused.
-    pub(crate) fn new(alloc: Global, panels: &[AppBlock]) -> Result<Screen, AllocError>
-        ensures { IfOk result (λ screen. known screen ≡ at_first panels.now) }
-    {
-        Ok(Screen {
-            rects: rects_of(alloc, panels)?,
-            keys: None,
-            pointer: None,
-        })
-    }
-
-    /// A line changes what is known.
-    pub(crate) fn take(&mut self, line: HostLine)
-        ensures { known self.new ≡ taken line (known self.old) }
-    {
-        match line {
-            HostLine::Move { x, y } => self.pointer = Some(Spot { x, y }),
-            HostLine::Focus(slot) => self.keys = slot,
-            HostLine::Rect { slot, rect } => {
-                if slot < self.rects.len() {
-                    self.rects[slot] = rect;
-                }
-            }
-            HostLine::Press(_) | HostLine::Release(_) | HostLine::Keydown(_) | HostLine::Keyup(_) =>
-                {}
-        }
-    }
-}
 
 /// What is known of the screen of panels after lines. An error where memory is refused.
 pub fn screen_after(

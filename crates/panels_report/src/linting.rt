@@ -10,7 +10,7 @@ ghost use Rattle.panels_text.specs.Words.{words_of};
 use crate::lists::push_all;
 use crate::trials::{answers_of, put};
 use panels_text::{
-    Question, Questions, Refusal, Unread, likely, otherwise, questions_of, refusal_in,
+    Question, Questions, Refusal, Unread, copied, likely, otherwise, questions_of, refusal_in,
 };
 use std::alloc::{AllocError, Global};
 use tk_session::AppBlock;
@@ -40,17 +40,6 @@ fn replaced(alloc: Global, own: &str, part: &str, other: &str) -> Result<String,
         Some((before, behind)) => format!(in alloc; "{before}{other}{behind}"),
         None => String::from_str(alloc, other),
     }
-}
-
-/// The same words.
-fn copied(alloc: Global, words: &[String]) -> Result<Vec<String>, AllocError>
-    ensures { IfOk result (λ copies. map string_bytes copies.items ≡ map string_bytes words.now) }
-{
-    let mut copies = Vec::new(alloc);
-    for word in words {
-        copies.push(String::from_str(alloc, word.as_str())?)?;
-    }
-    Ok(copies)
 }
 
 /// Words, but in that of this number another in the place of a part.

@@ -58,12 +58,9 @@ tail_read room n text (unended {cur} {a} {start} behind fault ending none some e
 
 -- the level of what is read within it
 abbrev level_in : List Opened → ℕ
-level_in [] = 0
 level_in (Before operator ∷ opened) = 11
 level_in (Pending operator a ∷ opened) = suc (level_of operator)
-level_in (Paren ∷ opened) = 0
-level_in (Question a ∷ opened) = 0
-level_in (Otherwise a b ∷ opened) = 0
+level_in other = 0
 
 -- operators in one another bind tighter, and a choice stands in none
 abbrev Nests : List Opened → Type 0
@@ -104,12 +101,8 @@ abbrev Started : List Opened → List ℕ → Result Tree ExprFault → Type 0
 Started opened text given = (ending : ExprEnding) × IsExpr (room_in opened) (level_in opened) text ending × Filled opened ending given
 
 level_most : (opened : List Opened) → level_in opened ≤ 11
-level_most [] = omega arith
-level_most (Before operator ∷ opened) = omega arith
 level_most (Pending operator a ∷ opened) = let h = (levels operator).most in omega (arith, h)
-level_most (Paren ∷ opened) = omega arith
-level_most (Question a ∷ opened) = omega arith
-level_most (Otherwise a b ∷ opened) = omega arith
+level_most opened = omega arith
 
 not_most : (m n : ℕ) → nat_le m n ≡ false → suc n ≤ m
 not_most m n h = grind (arith, nat_tests)
@@ -130,16 +123,12 @@ one_not_zero m h e = let x : m ≡ 0 = grind (arith, nat_tests) in omega (arith,
 level_of_open : (m : ℕ) (own : Opened) (opened : List Opened) → ends_at m own ≡ false → level_in (own ∷ opened) ≤ m
 level_of_open m (Before operator) opened e = absurd (cc)
 level_of_open m (Pending operator a) opened e = not_most m (level_of operator) e
-level_of_open m Paren opened e = least m
-level_of_open m (Question a) opened e = least m
-level_of_open m (Otherwise a b) opened e = least m
+level_of_open m own opened e = least m
 
 nests_rest : (own : Opened) (opened : List Opened) → Nests (own ∷ opened) → Nests opened
 nests_rest (Before operator) opened w = w
-nests_rest (Pending operator a) opened w = w.1
 nests_rest Paren opened w = w
-nests_rest (Question a) opened w = w.1
-nests_rest (Otherwise a b) opened w = w.1
+nests_rest own opened w = w.1
 
 -- what is left once all that ends has ended
 record Left (m : ℕ) (opened : List Opened) : Type 0 where
@@ -156,12 +145,9 @@ left_open m (own ∷ opened) tree w = go (left_open m opened (ended own tree) (n
 
 -- no operator is as loose as a choice
 none_looser : (opened : List Opened) → level_in opened ≤ 1 → level_in opened ≡ 0
-none_looser [] h = refl
 none_looser (Before operator ∷ opened) h = absurd (omega (arith, h))
 none_looser (Pending operator a ∷ opened) h = let l = (levels operator).least in absurd (omega (arith, h, l))
-none_looser (Paren ∷ opened) h = refl
-none_looser (Question a ∷ opened) h = refl
-none_looser (Otherwise a b ∷ opened) h = refl
+none_looser opened h = refl
 
 -- ── an operator behind a tree ──
 
@@ -232,39 +218,31 @@ question_continues (own ∷ opened) cur tree text behind given some e past =
 
 -- what waits for more than that
 abbrev Waits : List Opened → Type 0
-Waits [] = Unit {0}
 Waits (Before operator ∷ opened) = ⊥
 Waits (Pending operator a ∷ opened) = ⊥
-Waits (Paren ∷ opened) = Unit {0}
-Waits (Question a ∷ opened) = Unit {0}
 Waits (Otherwise a b ∷ opened) = ⊥
+Waits other = Unit {0}
 
 left_waits : (opened : List Opened) (tree : Tree) → Waits (close 0 opened tree).opened
-left_waits [] tree = tt
 left_waits (Before operator ∷ opened) tree = left_waits opened (Unary operator tree)
 left_waits (Pending operator a ∷ opened) tree = rw (zero_most (level_of operator)) (left_waits opened (between operator a tree))
-left_waits (Paren ∷ opened) tree = tt
-left_waits (Question a ∷ opened) tree = tt
 left_waits (Otherwise a b ∷ opened) tree = left_waits opened (Choice a b tree)
+left_waits opened tree = tt
 
 choice_filled : (opened : List Opened) (tree : Tree) (text : List ℕ) (given : Result Tree ExprFault) → level_in opened ≡ 0 → Nests opened →
     Filled (close 0 opened tree).opened (leaves (close 0 opened tree).tree text) given → Filled opened (leaves tree text) given
-choice_filled [] tree text given none w f = f
 choice_filled (Before operator ∷ opened) tree text given none w f = absurd (omega (arith, none))
 choice_filled (Pending operator a ∷ opened) tree text given none w f = absurd (omega (arith, none))
-choice_filled (Paren ∷ opened) tree text given none w f = f
-choice_filled (Question a ∷ opened) tree text given none w f = f
 choice_filled (Otherwise a b ∷ opened) tree text given none w f = choice_filled opened (Choice a b tree) text given w.0 w.1 f
+choice_filled opened tree text given none w f = f
 
 end_continues : (opened : List Opened) (cur : ℕ) (tree : Tree) (text : List ℕ) (given : Result Tree ExprFault) → Nests opened →
     Filled (close 0 opened tree).opened (leaves (close 0 opened tree).tree text) given → Continues opened cur tree text given
-end_continues [] cur tree text given w f = (leaves tree text, done, f)
 end_continues (Before operator ∷ opened) cur tree text given w f = (leaves tree text, done, end_continues opened 11 (Unary operator tree) text given w f)
 end_continues (Pending operator a ∷ opened) cur tree text given w f =
     (leaves tree text, done, end_continues opened (level_of operator) (between operator a tree) text given w.1 (rw (zero_most (level_of operator)) at f))
-end_continues (Paren ∷ opened) cur tree text given w f = (leaves tree text, done, f)
-end_continues (Question a ∷ opened) cur tree text given w f = (leaves tree text, done, f)
 end_continues (Otherwise a b ∷ opened) cur tree text given w f = (leaves tree text, done, choice_filled opened (Choice a b tree) text given w.0 w.1 f)
+end_continues opened cur tree text given w f = (leaves tree text, done, f)
 
 -- ── shorter texts ──
 
@@ -320,21 +298,16 @@ otherwise_filled opened a b (fails fault) given f = f
 
 module _ (text : List ℕ) (below : Below text) where
   whole_filled : (tree : Tree) (next : After) → goes_on next ≡ false → goes_within [] tree next ≡ whole_by tree next
-  whole_filled tree at_end h = refl
   whole_filled tree (linked (link.Infix operator) behind) h = absurd (cc)
   whole_filled tree (linked link.Question behind) h = absurd (cc)
-  whole_filled tree (linked link.Colon behind) h = refl
-  whole_filled tree (linked link.Close behind) h = refl
-  whole_filled tree nothing h = refl
+  whole_filled tree next h = refl
 
   paren_filled : (opened : List Opened) (tree : Tree) (next : After) → after text ≡ next → goes_on next ≡ false → Nests opened →
       PastParen (λ own rest. Continues opened 11 own rest (goes_within (Paren ∷ opened) tree next)) (closed_by tree next) (goes_within (Paren ∷ opened) tree next)
-  paren_filled opened tree at_end e h w = refl
   paren_filled opened tree (linked (link.Infix operator) behind) e h w = absurd (cc)
   paren_filled opened tree (linked link.Question behind) e h w = absurd (cc)
-  paren_filled opened tree (linked link.Colon behind) e h w = refl
   paren_filled opened tree (linked link.Close behind) e h w = (below behind (after_shorter text behind link.Close e)).operators opened tree w
-  paren_filled opened tree nothing e h w = refl
+  paren_filled opened tree next e h w = refl
 
   abbrev Coloned : List Opened → Tree → Tree → Result Tree ExprFault → Type 0
   Coloned opened a tree given =
@@ -343,14 +316,12 @@ module _ (text : List ℕ) (below : Below text) where
 
   question_filled : (opened : List Opened) (a tree : Tree) (next : After) → after text ≡ next → goes_on next ≡ false → (level_in opened ≡ 0) × Nests opened →
       Coloned opened a tree (goes_within (Question a ∷ opened) tree next)
-  question_filled opened a tree at_end e h w = inr (Syntax, ap colon_fault e, refl)
   question_filled opened a tree (linked (link.Infix operator) behind) e h w = absurd (cc)
   question_filled opened a tree (linked link.Question behind) e h w = absurd (cc)
   question_filled opened a tree (linked link.Colon behind) e h w =
       let s = (below behind (after_shorter text behind link.Colon e)).operands (Otherwise a tree ∷ opened) w in
       inl (behind, s.0, e, s.1, otherwise_filled opened a tree s.0 (tree_reading 0 AtOperand (Otherwise a tree ∷ opened) behind) s.2)
-  question_filled opened a tree (linked link.Close behind) e h w = inr (Syntax, ap colon_fault e, refl)
-  question_filled opened a tree nothing e h w = inr (Syntax, ap colon_fault e, refl)
+  question_filled opened a tree next e h w = inr (Syntax, ap colon_fault e, refl)
 
   within_filled : (opened : List Opened) (tree : Tree) (next : After) → after text ≡ next → goes_on next ≡ false → Waits opened → Nests opened →
       Filled opened (leaves tree text) (goes_within opened tree next)

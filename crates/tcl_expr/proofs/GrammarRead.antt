@@ -117,11 +117,9 @@ comparison_levels comparison.Same = record { least = omega arith; most = omega a
 comparison_levels comparison.Different = record { least = omega arith; most = omega arith }
 
 pub levels : (operator : Infix) → InLevels (level_of operator)
-levels infixed.And = record { least = omega arith; most = omega arith }
-levels infixed.Or = record { least = omega arith; most = omega arith }
 levels (infixed.Binary (binary.Arithmetic operator)) = arithmetic_levels operator
 levels (infixed.Binary (binary.Comparison operator)) = comparison_levels operator
-levels (infixed.Binary (binary.Text operator)) = record { least = omega arith; most = omega arith }
+levels operator = record { least = omega arith; most = omega arith }
 
 -- what stands open last doesn't end before an operator of this level or a tighter one
 abbrev pub Guards : ℕ → List Opened → Type 0
@@ -208,19 +206,7 @@ operand_moves opened text behind mark.OpenBrace f h = brace_moves opened (braced
 operand_moves opened text behind mark.Quote f h = pieces_moves opened (quoted_of (room_in opened) behind)
 operand_moves opened text behind mark.OpenBracket f h = piece_moves opened (bracket_of (room_in opened) behind)
 operand_moves opened text behind mark.Dollar f h = variable_moves opened (substitution_of (room_in opened) behind)
-operand_moves opened text behind mark.Star f h = refl
-operand_moves opened text behind mark.Slash f h = refl
-operand_moves opened text behind mark.Percent f h = refl
-operand_moves opened text behind mark.Less f h = refl
-operand_moves opened text behind mark.Greater f h = refl
-operand_moves opened text behind mark.Equals f h = refl
-operand_moves opened text behind mark.Ampersand f h = refl
-operand_moves opened text behind mark.Bar f h = refl
-operand_moves opened text behind mark.Caret f h = refl
-operand_moves opened text behind mark.Question f h = refl
-operand_moves opened text behind mark.Colon f h = refl
-operand_moves opened text behind mark.CloseParen f h = refl
-operand_moves opened text behind mark.Other f h = refl
+operand_moves opened text behind m f h = refl
 
 same_sign : (p q : UnaryOperator) → sign p ≡ sign q → p ≡ q
 same_sign p q e = cc
@@ -341,12 +327,10 @@ past_closed n opened text tree left c h =
 
 closed_comes : (opened : List Opened) (text : List ℕ) (tree : Tree) (next : After) → goes_on next ≡ false → tree_reading 0 AtOperand opened text ≡ goes (Paren ∷ opened) tree next →
     Comes 11 opened text (closed_by tree next)
-closed_comes opened text tree at_end h e = e
 closed_comes opened text tree (linked (link.Infix operator) behind) h e = absurd (cc)
 closed_comes opened text tree (linked link.Question behind) h e = absurd (cc)
-closed_comes opened text tree (linked link.Colon behind) h e = e
 closed_comes opened text tree (linked link.Close behind) h e = record { more = opened; last = tree; reads = e; closes = λ m k. refl }
-closed_comes opened text tree nothing h e = e
+closed_comes opened text tree next h e = e
 
 parens_come : (opened : List Opened) (text behind : List ℕ) (inner : ExprEnding) → stops inner ≡ true → tree_reading 0 AtOperand opened text ≡ tree_reading 0 AtOperand (Paren ∷ opened) behind →
     Comes 0 (Paren ∷ opened) behind inner → Comes 11 opened text (closed inner)
@@ -421,9 +405,6 @@ colon_fails opened a b fault at_end h e = ap Err (same_fault fault e)
   where
     same_fault : (f : ExprFault) → Some Syntax ≡ Some f → Syntax ≡ f
     same_fault f p = cc
-colon_fails opened a b fault (linked (link.Infix operator) behind) h e = absurd (cc)
-colon_fails opened a b fault (linked link.Question behind) h e = absurd (cc)
-colon_fails opened a b fault (linked link.Colon behind) h e = absurd (cc)
 colon_fails opened a b fault (linked link.Close behind) h e = ap Err (same_fault fault e)
   where
     same_fault : (f : ExprFault) → Some Syntax ≡ Some f → Syntax ≡ f
@@ -432,6 +413,7 @@ colon_fails opened a b fault nothing h e = ap Err (same_fault fault e)
   where
     same_fault : (f : ExprFault) → Some Syntax ≡ Some f → Syntax ≡ f
     same_fault f p = cc
+colon_fails opened a b fault next h e = absurd (cc)
 
 unchosen_fails : (opened : List Opened) (text behind : List ℕ) (a : Tree) (fault : ExprFault) (ending : ExprEnding) → stops ending ≡ true → unchosen ending ≡ Some fault →
     tree_reading 0 AtOperand opened text ≡ tree_reading 0 AtOperand (Question a ∷ opened) behind → Comes 0 (Question a ∷ opened) behind ending → tree_reading 0 AtOperand opened text ≡ Err fault
@@ -493,12 +475,9 @@ read (no_choice {room} {text} a left behind fault {ending} is e is' s u) opened 
 -- ── whole texts ──
 
 whole_comes : (tree : Tree) (next : After) → goes_on next ≡ false → goes [] tree next ≡ whole_by tree next
-whole_comes tree at_end h = refl
 whole_comes tree (linked (link.Infix operator) behind) h = absurd (cc)
 whole_comes tree (linked link.Question behind) h = absurd (cc)
-whole_comes tree (linked link.Colon behind) h = refl
-whole_comes tree (linked link.Close behind) h = refl
-whole_comes tree nothing h = refl
+whole_comes tree next h = refl
 
 whole_read_by : (text : List ℕ) (ending : ExprEnding) → stops ending ≡ true → Comes 0 [] text ending → tree_reading 0 AtOperand [] text ≡ whole_of ending
 whole_read_by text (leaves tree left) h c =

@@ -4,7 +4,7 @@ use Rattle.std.proofs.lemmas.Bool.Decides.{nat_tests}
 use Rattle.tcl_words.specs.declared.script.Command.{Command}
 use Rattle.tcl_words.specs.declared.script.Word.{Word}
 use Rattle.tcl_words.specs.declared.script.Piece.{Piece}
-use Rattle.tcl_words.specs.declared.script.Piece.TheVariants.{Literal, Variable, Element, Bracket}
+use Rattle.tcl_words.specs.declared.script.Piece.TheVariants.{Literal, Variable}
 use Rattle.tcl_text.specs.declared.fault.ParseFault.{ParseFault}
 use Rattle.tcl_vars.specs.Store.{Store, variable_in, element_in}
 use Rattle.tcl_text.specs.declared.fault.ReadFault.{ReadFault}
@@ -35,7 +35,7 @@ use Rattle.tcl_interp.specs.Asked.{run_meaning}
 use Rattle.tcl_interp.specs.Plans.{loop_ended, after_body, after_next, next_iteration}
 use Rattle.tcl_interp.specs.Acts.{script_meaning, outside_meaning}
 use Rattle.tcl_interp.specs.Scripts.{out_of_global, at_global, call_meaning, on_parsed}
-use Rattle.tcl_interp.specs.Finish.{Wording, Indexing, Doing, Begins, GoesOn, Indexes, Evaluates, Calls, Tests, Steps, Resumes, Ends, Waiting, ForCommand, ForPart, ForIndex, ForValue, ForTest, ForChoice, ForBody, ForNext, ForStart, ForCatch, ForLevels, ForProcedure, ForScript, ForAll, Running, script_rest, words_rest, word_done, index_rest, value_rest, choice_rest, iteration_rest, loop_rest, waiting_meaning, waits_meaning, finish}
+use Rattle.tcl_interp.specs.Finish.{Wording, Indexing, Doing, Begins, GoesOn, Indexes, Evaluates, Resumes, Ends, Waiting, ForCommand, ForPart, ForIndex, ForValue, ForTest, ForChoice, ForBody, ForNext, ForStart, ForAll, Running, script_rest, words_rest, word_done, index_rest, value_rest, choice_rest, iteration_rest, loop_rest, waiting_meaning, waits_meaning, finish}
 use Rattle.tcl_interp.specs.Quiet.{told_run, EvaluationMoves, MovesBy, LeadsBy, Leads}
 use Rattle.tcl_interp.specs.Moves.{Moved, Standing, Part, Script, ElementOf, variable_value, WordEnd, Whole, Failed, AtPart, index_depth, join_end, piece_end, word_end, with_more_words, moved, more_move, index_begins, element_begins, part_begins, word_move, words_move, element_end, index_move, indexes_move, parsed_move, begin_move, go_on_move, after_command, after_part, after_index, begun_as, expression_begins, value_given, answer_move, otherwise_move, choice_move, after_value_move, iteration_move, after_test_move, chosen_move, after_choice_move, next_move, after_body_move, after_next_move, after_start_move, global_end, end_move}
 
@@ -71,12 +71,10 @@ module _ {S : Type 0} (run : List ℕ → State S → Outcome S) (element : List
 
   -- the pieces of a word mean what the word's end says
   pub pieces_end : (pieces : List Piece) (so_far : List ℕ) (state : State S) → pieces_meaning run element pieces so_far state f ≡ end_meaning state (word_end (seen_frame state) state.store pieces so_far)
-  pieces_end [] so_far state = refl
   pieces_end (Literal text ∷ pieces) so_far state = joined_cases (nat_le (length (so_far ++ text)) 65536) state _ _ (pieces_end pieces (so_far ++ text) state)
   pieces_end (Variable name ∷ pieces) so_far state =
       read_cases state name (variable_in state.store (seen_frame state) name) pieces so_far (word_end (seen_frame state) state.store pieces) (λ state' text. with_joined so_far text state' (λ state'' joined. pieces_meaning run element pieces joined state'' f)) (λ text. joined_cases (nat_le (length (so_far ++ text)) 65536) state _ _ (pieces_end pieces (so_far ++ text) state))
-  pieces_end (Element name index ∷ pieces) so_far state = refl
-  pieces_end (Bracket script ∷ pieces) so_far state = refl
+  pieces_end pieces so_far state = refl
 
   pub joined_end : (pieces : List Piece) (so_far text : List ℕ) (state : State S) → with_joined so_far text state (λ state' joined. pieces_meaning run element pieces joined state' f) ≡ end_meaning state (join_end so_far text (word_end (seen_frame state) state.store pieces))
   joined_end pieces so_far text state = joined_cases (nat_le (length (so_far ++ text)) 65536) state _ _ (pieces_end pieces (so_far ++ text) state)
@@ -162,21 +160,16 @@ module _ {S K : Type 0} (outside : Outside S K) where
 
   index_end_same : (x : Indexing) (waits : List (Waiting K)) (state : State S) (code : Code) (text : List ℕ) → and_then (waiting_meaning outside (ForIndex x) state code text) (waits_meaning outside waits) ≡ finish_moved (after_index x waits code text) state
   index_end_same x waits state Normal text = longer_same x (x.so_far ++ text) (nat_le (length (x.so_far ++ text)) 65536) waits state
-  index_end_same x waits state Error text = refl
   index_end_same x waits state (Return code) text = refl
-  index_end_same x waits state Break text = refl
-  index_end_same x waits state Continue text = refl
+  index_end_same x waits state code text = refl
 
   -- ── words ──
 
   after_part_same : (room : ℕ) (after : List Command) (waits : List (Waiting K)) (g : State S → List ℕ → Outcome S) (state : State S) (code : Code) (text : List ℕ) →
       and_then (and_then (on_normal g state code text) (next_in room after)) (waits_meaning outside waits)
       ≡ and_then (on_normal (λ state' piece. and_then (g state' piece) (next_in room after)) state code text) (waits_meaning outside waits)
-  after_part_same room after waits g state Normal text = refl
-  after_part_same room after waits g state Error text = refl
   after_part_same room after waits g state (Return code) text = refl
-  after_part_same room after waits g state Break text = refl
-  after_part_same room after waits g state Continue text = refl
+  after_part_same room after waits g state code text = refl
 
   more_same : (room : ℕ) (after : List Command) (words : List Word) (whole : List (List ℕ)) (waits : List (Waiting K)) (state : State S) (go : List (List ℕ) → Moved K)
       → ((more : List (List ℕ)) → and_then (and_then (words_rest outside room words more state) (next_in room after)) (waits_meaning outside waits) ≡ finish_moved (go more) state)
@@ -271,27 +264,19 @@ module _ {S K : Type 0} (outside : Outside S K) where
   -- ── something ends that was waited for ──
 
   command_end_same : (room : ℕ) (after : List Command) (waits : List (Waiting K)) (state : State S) (code : Code) (text : List ℕ) → and_then (waiting_meaning outside (ForCommand room after) state code text) (waits_meaning outside waits) ≡ finish_moved (after_command room after waits code text) state
-  command_end_same room after waits state Normal text = refl
-  command_end_same room after waits state Error text = refl
   command_end_same room after waits state (Return code) text = refl
-  command_end_same room after waits state Break text = refl
-  command_end_same room after waits state Continue text = refl
+  command_end_same room after waits state code text = refl
 
   part_end_same : (w : Wording) (waits : List (Waiting K)) (state : State S) (code : Code) (text : List ℕ) → and_then (waiting_meaning outside (ForPart w) state code text) (waits_meaning outside waits) ≡ finish_moved (after_part (seen_frame state) state.store w waits code text) state
   part_end_same w waits state Normal text =
       ap (λ o. and_then (and_then o (next_in w.room w.after)) (waits_meaning outside waits)) (joined_end (run_in w.room) (element_meaning (run_in w.room)) (word_done outside w.room w.expand w.words w.whole) w.pieces w.so_far text state)
       ∙ word_same w.room w.after w.expand w.words w.whole waits state (λ more. words_move (seen_frame state) state.store w.room w.after w.words more waits) (λ more. words_same w.room w.after w.words more waits state) (join_end w.so_far text (word_end (seen_frame state) state.store w.pieces))
-  part_end_same w waits state Error text = refl
   part_end_same w waits state (Return code) text = refl
-  part_end_same w waits state Break text = refl
-  part_end_same w waits state Continue text = refl
+  part_end_same w waits state code text = refl
 
   value_end_same : (room : ℕ) (evaluation : Resumption) (waits : List (Waiting K)) (state : State S) (code : Code) (text : List ℕ) → and_then (waiting_meaning outside (ForValue room evaluation) state code text) (waits_meaning outside waits) ≡ finish_moved (after_value_move room evaluation waits code text) state
-  value_end_same room evaluation waits state Normal text = refl
-  value_end_same room evaluation waits state Error text = refl
   value_end_same room evaluation waits state (Return code) text = refl
-  value_end_same room evaluation waits state Break text = refl
-  value_end_same room evaluation waits state Continue text = refl
+  value_end_same room evaluation waits state code text = refl
 
   iteration_same_by : (room : ℕ) (looping : Loop) (waits : List (Waiting K)) (state : State S) (truth : Result Bool (List ℕ)) → and_then (with_truth state (if_holds (iteration_rest outside room looping) loop_ended) truth) (waits_meaning outside waits) ≡ finish_moved (iteration_move room looping waits truth) state
   iteration_same_by room looping waits state (Ok true) = and_then_assoc (run_in room looping.body state) (after_body (next_iteration (run_in room) looping.next (loop_rest outside room looping))) (waits_meaning outside waits)
@@ -300,10 +285,8 @@ module _ {S K : Type 0} (outside : Outside S K) where
 
   test_end_same : (room : ℕ) (looping : Loop) (waits : List (Waiting K)) (state : State S) (code : Code) (text : List ℕ) → and_then (waiting_meaning outside (ForTest room looping) state code text) (waits_meaning outside waits) ≡ finish_moved (after_test_move room looping waits code text) state
   test_end_same room looping waits state Normal text = iteration_same_by room looping waits state (truth_of_text text)
-  test_end_same room looping waits state Error text = refl
   test_end_same room looping waits state (Return code) text = refl
-  test_end_same room looping waits state Break text = refl
-  test_end_same room looping waits state Continue text = refl
+  test_end_same room looping waits state code text = refl
 
   chosen_same : (room : ℕ) (branches : List Branch) (otherwise : Option (List ℕ)) (waits : List (Waiting K)) (state : State S) (truth : Result Bool (List ℕ)) → and_then (with_truth state (choice_rest outside room branches otherwise) truth) (waits_meaning outside waits) ≡ finish_moved (chosen_move room branches otherwise waits truth) state
   chosen_same room [] otherwise waits state (Ok holds) = otherwise_same room otherwise waits state
@@ -314,10 +297,8 @@ module _ {S K : Type 0} (outside : Outside S K) where
 
   choice_end_same : (room : ℕ) (branches : List Branch) (otherwise : Option (List ℕ)) (waits : List (Waiting K)) (state : State S) (code : Code) (text : List ℕ) → and_then (waiting_meaning outside (ForChoice room branches otherwise) state code text) (waits_meaning outside waits) ≡ finish_moved (after_choice_move room branches otherwise waits code text) state
   choice_end_same room branches otherwise waits state Normal text = chosen_same room branches otherwise waits state (truth_of_text text)
-  choice_end_same room branches otherwise waits state Error text = refl
   choice_end_same room branches otherwise waits state (Return code) text = refl
-  choice_end_same room branches otherwise waits state Break text = refl
-  choice_end_same room branches otherwise waits state Continue text = refl
+  choice_end_same room branches otherwise waits state code text = refl
 
   next_test_same : (room : ℕ) (looping : Loop) (waits : List (Waiting K)) (state : State S) (next : Option (List ℕ))
       → and_then (next_iteration (run_in room) next (loop_rest outside room looping) state) (waits_meaning outside waits) ≡ finish_moved (next_move room looping waits next) state
@@ -332,25 +313,16 @@ module _ {S K : Type 0} (outside : Outside S K) where
   body_end_same room looping waits state Continue text = next_test_same room looping waits state looping.next
 
   next_end_same : (room : ℕ) (looping : Loop) (waits : List (Waiting K)) (state : State S) (code : Code) (text : List ℕ) → and_then (waiting_meaning outside (ForNext room looping) state code text) (waits_meaning outside waits) ≡ finish_moved (after_next_move room looping waits code text) state
-  next_end_same room looping waits state Normal text = refl
-  next_end_same room looping waits state Error text = refl
   next_end_same room looping waits state (Return code) text = refl
-  next_end_same room looping waits state Break text = refl
-  next_end_same room looping waits state Continue text = refl
+  next_end_same room looping waits state code text = refl
 
   start_end_same : (room : ℕ) (looping : Loop) (waits : List (Waiting K)) (state : State S) (code : Code) (text : List ℕ) → and_then (waiting_meaning outside (ForStart room looping) state code text) (waits_meaning outside waits) ≡ finish_moved (after_start_move room looping waits code text) state
-  start_end_same room looping waits state Normal text = refl
-  start_end_same room looping waits state Error text = refl
   start_end_same room looping waits state (Return code) text = refl
-  start_end_same room looping waits state Break text = refl
-  start_end_same room looping waits state Continue text = refl
+  start_end_same room looping waits state code text = refl
 
   global_end_same : (waits : List (Waiting K)) (state : State S) (code : Code) (text : List ℕ) → and_then (at_global state code text) (waits_meaning outside waits) ≡ finish_moved (moved (global_end code text) waits) state
-  global_end_same waits state Normal text = refl
-  global_end_same waits state Error text = refl
   global_end_same waits state (Return code) text = refl
-  global_end_same waits state Break text = refl
-  global_end_same waits state Continue text = refl
+  global_end_same waits state code text = refl
 
   pub end_same : (code : Code) (text : List ℕ) (waiting : Waiting K) (waits : List (Waiting K)) (state : State S) → finish outside (Running (Ends code text) (waiting ∷ waits)) state ≡ finish_standing (end_move state.store state.context code text waiting waits) state
   end_same code text (ForCommand room after) waits state = command_end_same room after waits state code text
@@ -362,11 +334,8 @@ module _ {S K : Type 0} (outside : Outside S K) where
   end_same code text (ForBody room looping) waits state = body_end_same room looping waits state code text
   end_same code text (ForNext room looping) waits state = next_end_same room looping waits state code text
   end_same code text (ForStart room looping) waits state = start_end_same room looping waits state code text
-  end_same code text (ForCatch name) waits state = refl
-  end_same code text (ForLevels levels) waits state = refl
-  end_same code text ForProcedure waits state = refl
-  end_same code text (ForScript room task) waits state = refl
   end_same code text ForAll waits state = global_end_same waits state (out_of_global code) text
+  end_same code text waiting waits state = refl
 
   -- ── moves in a row ──
 
@@ -380,12 +349,10 @@ module _ {S K : Type 0} (outside : Outside S K) where
   moves_same_by store context (Indexes x) waits n state e = indexes_same x waits (record state { store = store; context = context }) ∙ ap (λ x. finish_standing x state) (sym e)
   moves_same_by store context (Evaluates room evaluation given) waits n state e =
       evaluation_same room evaluation given waits (record state { store = store; context = context }) n.moved e.0 ∙ stays n store context state e.1 e.2
-  moves_same_by store context (Calls room words) waits n state e = ap (λ x. finish_standing x state) (sym e)
-  moves_same_by store context (Tests room looping) waits n state e = ap (λ x. finish_standing x state) (sym e)
-  moves_same_by store context (Steps room task) waits n state e = ap (λ x. finish_standing x state) (sym e)
   moves_same_by store context (Resumes room task code text) waits n state e = ap (λ x. finish_standing x state) (sym e)
   moves_same_by store context (Ends code text) [] n state e = ap (λ x. finish_standing x state) (sym e)
   moves_same_by store context (Ends code text) (waiting ∷ waits) n state e = end_same code text waiting waits (record state { store = store; context = context }) ∙ ap (λ x. finish_standing x state) (sym e)
+  moves_same_by store context doing waits n state e = ap (λ x. finish_standing x state) (sym e)
 
   leads_same_by : (moves : ℕ) (m n : Standing K) (state : State S) → LeadsBy moves m n → finish_standing m state ≡ finish_standing n state
   leads_same_by zero m n state e = ap (λ x. finish_standing x state) (sym e)

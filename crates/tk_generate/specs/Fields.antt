@@ -6,7 +6,7 @@ use Rattle.tcl_text.specs.Answers.{fails}
 use Rattle.tk_sequences.specs.declared.detail.Detail.{Detail}
 use Rattle.tk_sequences.specs.declared.detail.Detail.TheVariants as details
 use Rattle.tk_sequences.specs.declared.event_type.EventType.{EventType}
-use Rattle.tk_sequences.specs.declared.event_type.EventType.TheVariants.{Button, ButtonRelease, Motion, Enter, Leave, Configure}
+use Rattle.tk_sequences.specs.declared.event_type.EventType.TheVariants.{Motion, Enter, Leave, Configure}
 use Rattle.tk_sequences.specs.declared.modifier.Modifier.{Modifier}
 use Rattle.tk_sequences.specs.declared.pattern.Pattern.{Pattern}
 use Rattle.tk_sequences.specs.Modifiers.{all_modifiers, has_modifier, modifier_bit}
@@ -16,12 +16,10 @@ use Rattle.tk_sequences.specs.Types.{is_button_type, is_key_type}
 
 -- the pointer makes it
 abbrev pub is_of_pointer : EventType → Bool
-is_of_pointer Button = true
-is_of_pointer ButtonRelease = true
 is_of_pointer Motion = true
 is_of_pointer Enter = true
 is_of_pointer Leave = true
-is_of_pointer _ = false
+is_of_pointer type = is_button_type type
 
 abbrev pub is_configure : EventType → Bool
 is_configure Configure = true

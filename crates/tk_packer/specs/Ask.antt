@@ -34,21 +34,16 @@ default_request width height = record {
 abbrev pub edge_of : Axis → Side → Option Edge
 edge_of Horizontal Left = Some Near
 edge_of Horizontal Right = Some Far
-edge_of Horizontal Top = None
-edge_of Horizontal Bottom = None
 edge_of Vertical Top = Some Near
 edge_of Vertical Bottom = Some Far
-edge_of Vertical Left = None
-edge_of Vertical Right = None
+edge_of _ _ = None
 
 -- whether a window takes the whole of its parcel along an axis
 abbrev pub fills_along : Axis → Fill → Bool
-fills_along axis Neither = false
-fills_along Horizontal X = true
-fills_along Vertical X = false
-fills_along Horizontal Y = false
-fills_along Vertical Y = true
 fills_along axis Both = true
+fills_along Horizontal X = true
+fills_along Vertical Y = true
+fills_along axis _ = false
 
 -- which way an anchor draws a window along an axis
 abbrev pub align_of : Axis → Anchor → Align

@@ -29,23 +29,23 @@ one_more number place events event there =
 at_place : (place : ℕ) → 0 < place → (place - 1) + 1 ≡ place
 at_place place above = omega arith
 
+-- the event before a place is the newest of its number, or isn't of it
+earlier_by : (number place : ℕ) (events : List Event) (event : Event) (b : Bool) → 0 < place → slice_get events (place - 1) ≡ Some event → (event.number == number) ≡ b
+    → earlier_at number (take place events) ≡ newest b event (filter (λ e. e.number == number) (take (place - 1) events))
+earlier_by number place events event b above there is =
+    ap (λ n. earlier_at number (take n events)) (sym (at_place place above))
+    ∙ one_more number (place - 1) events event there
+    ∙ ap (λ b. newest b event (filter (λ e. e.number == number) (take (place - 1) events))) is
+
 pub earlier_own : (number place : ℕ) (events : List Event) (event : Event) → 0 < place → slice_get events (place - 1) ≡ Some event → (event.number == number) ≡ true
     → earlier_at number (take place events) ≡ event ∷ earlier_at number (take (place - 1) events)
 earlier_own number place events event above there own =
-    let rest = filter (λ e. e.number == number) (take (place - 1) events) in
-    ap (λ n. earlier_at number (take n events)) (sym (at_place place above))
-    ∙ one_more number (place - 1) events event there
-    ∙ ap (λ b. newest b event rest) own
-    ∙ newest_own event rest
+    earlier_by number place events event true above there own ∙ newest_own event (filter (λ e. e.number == number) (take (place - 1) events))
 
 pub earlier_other : (number place : ℕ) (events : List Event) (event : Event) → 0 < place → slice_get events (place - 1) ≡ Some event → (event.number == number) ≡ false
     → earlier_at number (take place events) ≡ earlier_at number (take (place - 1) events)
 earlier_other number place events event above there other =
-    let rest = filter (λ e. e.number == number) (take (place - 1) events) in
-    ap (λ n. earlier_at number (take n events)) (sym (at_place place above))
-    ∙ one_more number (place - 1) events event there
-    ∙ ap (λ b. newest b event rest) other
-    ∙ newest_other event rest
+    earlier_by number place events event false above there other ∙ newest_other event (filter (λ e. e.number == number) (take (place - 1) events))
 
 -- ── the nearest ──
 pub nearest_here : (pattern : Pattern) (event : Event) (events : List Event) → fits pattern event ≡ true → nearest pattern (event ∷ events) ≡ Some (event, events)

@@ -163,7 +163,7 @@ all_false false false true h = absurd (cc)
 all_false false true c h = absurd (cc)
 all_false true b c h = absurd (cc)
 
-not_fourth : (a b c d : Bool) → ((a || b) || (c || d)) ≡ false → d ≡ false
+pub not_fourth : (a b c d : Bool) → ((a || b) || (c || d)) ≡ false → d ≡ false
 not_fourth a b c false h = refl
 not_fourth false false false true h = absurd (cc)
 not_fourth false false true true h = absurd (cc)

@@ -7,7 +7,7 @@ use Rattle.tk_patterns.specs.Filed.{numbers_of, stamps_of, HasStampAt, IsRising}
 use Rattle.tk_patterns.specs.Rests.{first_of, past, earlier}
 use Rattle.tk_sequences.specs.declared.event.Event.{Event}
 use Rattle.tk_sequences.specs.declared.event.EventKind.TheVariants as kinds
-use Rattle.tk_patterns.proofs.FilingLemmas.{passed_over, none_at_all}
+use Rattle.tk_patterns.proofs.FilingLemmas.{none_at_all, not_fourth, passed_over}
 use Rattle.tk_patterns.specs.declared.binding.Binding.{Binding}
 use Rattle.tk_patterns.specs.Filing.{number_of, is_number, is_number_of_key, is_number_of_button, is_number_of_names, is_sought}
 use Rattle.tk_patterns.specs.Specific.{Candidate}
@@ -106,13 +106,6 @@ module _ (event : Event) (history : List Event) (virtuals : List Pair) (tag : Li
     not_third false false true d h = absurd (cc)
     not_third false true true d h = absurd (cc)
     not_third true b true d h = absurd (cc)
-
-    not_fourth : (a b c d : Bool) → ((a || b) || (c || d)) ≡ false → d ≡ false
-    not_fourth a b c false h = refl
-    not_fourth false false false true h = absurd (cc)
-    not_fourth false false true true h = absurd (cc)
-    not_fourth false true c true h = absurd (cc)
-    not_fourth true b c true h = absurd (cc)
 
     -- the binding that comes next
     pub record Next (by_key by_button any named : List ℕ) (holder : Option Candidate) (stamp : ℕ) : Type 0 where

@@ -27,8 +27,7 @@ first_of Alike later = later
 abbrev pub by_having : Bool → Bool → Verdict
 by_having true false = More
 by_having false true = Less
-by_having true true = Alike
-by_having false false = Alike
+by_having _ _ = Alike
 
 -- the last pattern has a detail
 abbrev pub ends_with_detail : List Pattern → Bool
@@ -82,13 +81,11 @@ verdict patterns others name other =
 
 abbrev pub is_more : Verdict → Bool
 is_more More = true
-is_more Less = false
-is_more Alike = false
+is_more _ = false
 
 abbrev pub is_alike : Verdict → Bool
-is_alike More = false
-is_alike Less = false
 is_alike Alike = true
+is_alike _ = false
 
 -- the first is more specific
 abbrev pub beats : Candidate → Candidate → Bool

@@ -3,7 +3,7 @@ use Rattle.std.proofs.Common.{◌≡◌, ℕ, Bool, true, false, List, [], ◌�
 use Rattle.std.specs.Prelude.{◌==◌, ◌&&◌, ◌||◌, option_map, option_and_then}
 use Rattle.std.specs.List.{filter_map, cons_option}
 use Rattle.std.specs.Result.{result_ok}
-use Rattle.std.proofs.lemmas.Bool.{eqb-true}
+use Rattle.std.proofs.lemmas.Bool.{and_parts, eqb-true}
 use Rattle.std.proofs.lemmas.Slice.Eq.{bytes_eq-Decides}
 use Rattle.tcl_vars.specs.Store.{Store, variable_in}
 use Rattle.tk_packer.specs.Changes.{changes_of}
@@ -20,14 +20,6 @@ use Rattle.tk_widgets.specs.declared.widget.Widget.{Widget}
 use Rattle.tk_widgets.specs.Sizes.{requested}
 use Rattle.tk_screen.specs.declared.reads.TextRead.{TextRead}
 use Rattle.tk_screen.specs.Reads.{hold, holds, is_size, read_at, read_named, read_of, reads, same_text, size_now}
-
-one_so : (a b : Bool) → a && b ≡ true → a ≡ true
-one_so true b is = refl
-one_so false b is = absurd (cc)
-
-other_so : (a b : Bool) → a && b ≡ true → b ≡ true
-other_so true b is = is
-other_so false b is = absurd (cc)
 
 text_is : (read now : Option (List ℕ)) → same_text read now ≡ true → read ≡ now
 text_is None None same = refl
@@ -52,7 +44,7 @@ module _ (own : Windowing) (before now : Store) where
 
   others_hold : (told : Option TextRead) (rest : List TextRead) → hold own.widgets now (cons_option told rest) ≡ true → hold own.widgets now rest ≡ true
   others_hold None rest so = so
-  others_hold (Some read) rest so = other_so (holds own.widgets now read) (hold own.widgets now rest) so
+  others_hold (Some read) rest so = (and_parts (holds own.widgets now read) (hold own.widgets now rest) so).1
 
   -- a widget that names no variable asks for one size, and one that names one for the size that holds
   size_by : (number : ℕ) (widget : Widget) (named : Option (List ℕ)) → variable_of widget ≡ named → widget_at number own.widgets ≡ Some widget → (rest : List TextRead)
@@ -72,7 +64,7 @@ module _ (own : Windowing) (before now : Store) where
       read = read_named before number widget name
 
       first : holds own.widgets now read ≡ true
-      first = one_so (holds own.widgets now read) (hold own.widgets now rest) so
+      first = (and_parts (holds own.widgets now read) (hold own.widgets now rest) so).0
 
       text_in : (store : Store) → variable_text widget store ≡ result_ok (variable_in store 0 name)
       text_in store = ap (option_and_then (λ name. result_ok (variable_in store 0 name))) is

@@ -27,10 +27,7 @@ variable_text widget store = option_and_then (λ name. result_ok (variable_in st
 -- what is packed in a frame decides what it asks for, unless that was unset; it doesn't in other widgets
 abbrev pub is_frame : Kind → Bool
 is_frame kind.Frame = true
-is_frame kind.Label = false
-is_frame kind.Button = false
-is_frame kind.Entry = false
-is_frame kind.Listbox = false
+is_frame _ = false
 
 -- a window as the layout sees it: its widget asks for a size with the variable's text of the moment
 unfoldable pub shape_of : Packing → Store → Window → Widget → Shape

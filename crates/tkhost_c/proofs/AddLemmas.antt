@@ -1,50 +1,20 @@
 -- How adding is refused, by the refusal.
-use Rattle.std.proofs.Common.{◌≡◌, ◌≢◌, ◌<◌, ℕ, true, List, [], ◌∷◌, ◌++◌, Option, Some, None, Result, Ok, Err, inl, inr, length, refl, sym, ap, subst}
-use Rattle.tk_alias.specs.Names.{is_command_name, most_aliases}
+use Rattle.std.proofs.Common.{◌≡◌, ℕ, List, [], ◌∷◌, ◌++◌, Result, Ok, Err, inr, sym, ap, subst}
 use Rattle.tk_alias.specs.declared.service.Service.{Service}
-use Rattle.tk_alias.specs.declared.service.ServiceKind.{ServiceKind}
 use Rattle.tk_base.specs.declared.budget.Budget.{Budget}
 use Rattle.tk_base.specs.declared.rect.Rect.{Rect}
 use Rattle.tk_host.specs.Held.{Hosted, with_app}
 use Rattle.tk_host.specs.Refusals.{IsRefusal, RefusesApp, add_faults}
 use Rattle.tk_host.specs.Spec.{given}
-use Rattle.tk_host.specs.declared.phase.Phase.TheVariants.{Adding}
 use Rattle.tk_route.specs.Refusals.{NoneApplies}
 use Rattle.tk_route.specs.declared.fault.HostFault.{HostFault}
 use Rattle.tk_route.specs.declared.fault.HostFault.TheVariants.{Refused, NoMemory as no_memory}
-use Rattle.tk_route.specs.declared.fault.LineFault.{LineFault}
-use Rattle.tk_route.specs.declared.fault.LineFault.TheVariants.{BadLine}
 use Rattle.tk_session.specs.declared.session.AppBlock.{AppBlock}
-use Rattle.tkhost_c.specs.Calls.{Adds, AddsWith, IsText, Pushes, ReadsAlias, ReadsApp, ReadsText, Waits, named_only, none_waits, waits_too}
+use Rattle.tkhost_c.specs.Calls.{Adds, AddsWith, IsText, ReadsApp, named_only, none_waits}
 use Rattle.tkhost_c.specs.Keeps.{Keeps}
 use Rattle.tkhost_c.specs.Refused.{refusal_of}
 use Rattle.tkhost_c.specs.declared.refusal.Refusal.{Refusal}
 use Rattle.tkhost_c.specs.declared.refusal.Refusal.TheVariants.{Fault, NoMemory, NoHost, HasHost, TooSmall, NotStarted}
-
-pub name_unread : (name : List ℕ) (rect : Rect) (script : List ℕ) (budget : Budget) (refusal : Refusal) → ReadsText name (Err refusal) → ReadsApp name rect script budget (Err refusal)
-name_unread name rect script budget (Fault fault) is = (is.0, λ both. is.1 both.0)
-name_unread name rect script budget NoMemory is = tt
-name_unread name rect script budget NoHost is = is
-name_unread name rect script budget HasHost is = is
-name_unread name rect script budget TooSmall is = is
-name_unread name rect script budget NotStarted is = is
-
-pub script_unread : (name : List ℕ) (rect : Rect) (script : List ℕ) (budget : Budget) (refusal : Refusal) → ReadsText script (Err refusal) → ReadsApp name rect script budget (Err refusal)
-script_unread name rect script budget (Fault fault) is = (is.0, λ both. is.1 both.1)
-script_unread name rect script budget NoMemory is = tt
-script_unread name rect script budget NoHost is = is
-script_unread name rect script budget HasHost is = is
-script_unread name rect script budget TooSmall is = is
-script_unread name rect script budget NotStarted is = is
-
-pub app_unread : (name : List ℕ) (rect : Rect) (script : List ℕ) (budget : Budget) (old : Keeps) (refusal : Refusal) → ReadsApp name rect script budget (Err refusal)
-    → Adds name rect script budget old (none_waits old) (Err refusal)
-app_unread name rect script budget old (Fault fault) is = (refl, inl (is.0, is.1))
-app_unread name rect script budget old NoMemory is = refl
-app_unread name rect script budget old NoHost is = is
-app_unread name rect script budget old HasHost is = is
-app_unread name rect script budget old TooSmall is = is
-app_unread name rect script budget old NotStarted is = is
 
 -- an application of what was read
 of_texts : (name : List ℕ) (rect : Rect) (script : List ℕ) (budget : Budget) (old new : Keeps) → IsText name → IsText script → (answer : Result (Unit {0}) Refusal)
@@ -90,27 +60,3 @@ app_refused block script aliases old host name apps fault refusal named kept is 
     let Q : List AppBlock → Type 0 = λ more. AddsWith block script aliases old (record { host = host; apps = more; waiting = old.waiting }) (Err refusal) in
     let R : Refusal → Type 0 = λ r. AddsWith block script aliases old (record { host = host; apps = old.apps; waiting = old.waiting }) (Err r) in
     subst Q (sym kept) (subst R (sym is) (plainly_refused block script aliases old host fault (subst P named refused) same))
-
--- ---- aliases
-
-pub alias_unread : (kind : Option ServiceKind) (name config : List ℕ) (old : Keeps) (refusal : Refusal) → old.host.held.phase ≡ Adding → ReadsAlias kind name config (Err refusal)
-    → Waits kind name config old old (Err refusal)
-alias_unread kind name config old (Fault fault) adding is =
-    subst (λ (f : LineFault). Waits kind name config old old (Err (Fault f))) (sym is.0)
-    (adding, (λ all. is.1 (all.0, all.1, all.4)), refl)
-alias_unread kind name config old NoMemory adding is = (adding, refl)
-alias_unread kind name config old NoHost adding is = is
-alias_unread kind name config old HasHost adding is = is
-alias_unread kind name config old TooSmall adding is = is
-alias_unread kind name config old NotStarted adding is = is
-
-pub alias_waits : (kind : Option ServiceKind) (name config : List ℕ) (old new : Keeps) (alias : List ℕ × Service) (answer : Result (Unit {0}) Refusal) → old.host.held.phase ≡ Adding
-    → is_command_name name ≡ true → length old.waiting < most_aliases → ReadsAlias kind name config (Ok alias) → Pushes alias old new answer → Waits kind name config old new answer
-alias_waits kind name config old new alias (Ok done) adding named few read is =
-    (adding, read.0, read.1, named, few, read.2, read.3, subst (λ (a : List ℕ × Service). new ≡ record old { waiting = old.waiting ++ a ∷ [] }) read.4 is)
-alias_waits kind name config old new alias (Err (Fault fault)) adding named few read is = absurd is
-alias_waits kind name config old new alias (Err NoMemory) adding named few read is = (adding, is)
-alias_waits kind name config old new alias (Err NoHost) adding named few read is = is
-alias_waits kind name config old new alias (Err HasHost) adding named few read is = is
-alias_waits kind name config old new alias (Err TooSmall) adding named few read is = is
-alias_waits kind name config old new alias (Err NotStarted) adding named few read is = is

@@ -24,7 +24,7 @@ loop-event-preserved g c =
     ∙ ap (λ note. map told at.notes.items ++ note ∷ [])
     (came_is c.in_ok-noted.field-0 (note_of g.M.AliasMeaning.answer (length c.apps-panels.result.now) calls (known at.screen) c.event-item.result) (c.in_ok-noted.ensures.getter calls begun)
     (c.in_ok-noted.ensures.changed calls begun)))
-    c.take.ensures
+    c.take.ensures.known
 
 pub returns : goal.returns
 returns g c calls begun =

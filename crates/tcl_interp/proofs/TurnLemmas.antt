@@ -11,9 +11,9 @@ use Rattle.tcl_control.specs.declared.loops.Test.TheVariants.{Holds, Items}
 use Rattle.tcl_table.specs.Levels.{here}
 use Rattle.tcl_table.specs.Source.{script_of}
 use Rattle.tcl_interp.specs.declared.turns.Halt.TheVariants as halt
-use Rattle.tcl_interp.specs.declared.whole.Reach.{Reach}
-use Rattle.tcl_interp.specs.declared.whole.Reach.TheVariants as reach
-use Rattle.tcl_interp.specs.declared.whole.Stop.{Stop}
+use Rattle.tcl_interp.specs.declared.reach.Reach.{Reach}
+use Rattle.tcl_interp.specs.declared.reach.Reach.TheVariants as reach
+use Rattle.tcl_interp.specs.declared.reach.Stop.{Stop}
 use Rattle.tcl_interp.specs.Outside.{Outside}
 use Rattle.tcl_interp.specs.Finish.{Begins, Ends, ForBody, ForNext, GoesOn, Tests, Waiting}
 use Rattle.tcl_interp.specs.Moves.{Standing, begin_move, moved, next_move, parsed_move, standing}

@@ -20,8 +20,8 @@ use Rattle.tcl_control.specs.Control.{by_command, keeps_all}
 use Rattle.tcl_table.specs.Source.{script_of}
 use Rattle.tcl_interp.specs.declared.chosen.Chosen.TheVariants as chosen
 use Rattle.tcl_interp.specs.declared.machine.ScriptPlace.{ScriptPlace}
-use Rattle.tcl_interp.specs.declared.whole.Past.{Past}
-use Rattle.tcl_interp.specs.declared.whole.Past.TheVariants as past
+use Rattle.tcl_interp.specs.declared.reach.Past.{Past}
+use Rattle.tcl_interp.specs.declared.reach.Past.TheVariants as past
 use Rattle.tcl_interp.specs.Outside.{Outside}
 use Rattle.tcl_interp.specs.Evaluation.{and_then, called}
 use Rattle.tcl_interp.specs.Finish.{Begins, Calls, Ends, ForCommand, GoesOn, Waiting, waits_meaning, words_rest}

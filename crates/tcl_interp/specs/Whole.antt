@@ -12,13 +12,13 @@ use Rattle.tcl_table.specs.Source.{script_of}
 use Rattle.tcl_interp.specs.declared.chosen.Chosen.{Chosen}
 use Rattle.tcl_interp.specs.declared.chosen.Chosen.TheVariants as chosen
 use Rattle.tcl_interp.specs.declared.machine.ScriptPlace.{ScriptPlace}
-use Rattle.tcl_interp.specs.declared.whole.Came.{Came}
-use Rattle.tcl_interp.specs.declared.whole.Came.TheVariants as came
-use Rattle.tcl_interp.specs.declared.whole.Past.{Past}
-use Rattle.tcl_interp.specs.declared.whole.Past.TheVariants as past
-use Rattle.tcl_interp.specs.declared.whole.Reach.{Reach}
-use Rattle.tcl_interp.specs.declared.whole.Reach.TheVariants as reach
-use Rattle.tcl_interp.specs.declared.whole.Stop.{Stop}
+use Rattle.tcl_interp.specs.declared.reach.Came.{Came}
+use Rattle.tcl_interp.specs.declared.reach.Came.TheVariants as came
+use Rattle.tcl_interp.specs.declared.reach.Past.{Past}
+use Rattle.tcl_interp.specs.declared.reach.Past.TheVariants as past
+use Rattle.tcl_interp.specs.declared.reach.Reach.{Reach}
+use Rattle.tcl_interp.specs.declared.reach.Reach.TheVariants as reach
+use Rattle.tcl_interp.specs.declared.reach.Stop.{Stop}
 use Rattle.tcl_control.specs.Expressions.{truth_of_text}
 use Rattle.tcl_interp.specs.Finish.{Ends, ForCommand, GoesOn, Waiting}
 use Rattle.tcl_interp.specs.Moves.{Moved, after_command, expression_begins, moved, standing}

@@ -1,6 +1,7 @@
 //! A Tcl interpreter on a stack of its own, which can stop after any number of steps.
 #![tactic(auto)]
 
+mod calls;
 mod chosen;
 mod element_laws;
 mod expressions;
@@ -14,6 +15,7 @@ mod machine;
 mod moves;
 mod onward;
 mod openings;
+mod reach;
 mod script_laws;
 mod seen;
 mod simple;

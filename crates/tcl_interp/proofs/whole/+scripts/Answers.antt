@@ -2,7 +2,7 @@ use Rattle.std.proofs.Common.{◌≡◌, ◌<◌, ◌≤◌, ◌+◌, ◌-◌, �
 use Rattle.std.proofs.lemmas.Result.{IfOk-weaker}
 use Rattle.tcl_control.specs.declared.code.Code.TheVariants.{Normal}
 use Rattle.tcl_interp.specs.declared.chosen.Chosen.TheVariants as chosen
-use Rattle.tcl_interp.specs.declared.whole.Past.TheVariants as past
+use Rattle.tcl_interp.specs.declared.reach.Past.TheVariants as past
 use Rattle.tcl_interp.specs.Finish.{ForCommand, GoesOn, Waiting}
 use Rattle.tcl_interp.specs.Moves.{after_command, moved, standing}
 use Rattle.tcl_interp.specs.Rests.{commands_in}

@@ -1,7 +1,7 @@
 use Rattle.std.proofs.Common.{◌++◌, ℕ, List, [], ◌∷◌, drop}
 use Rattle.tcl_interp.specs.Simple.{EndsCall, WordsLead}
 use Rattle.tcl_interp.proofs.SimpleLemmas.{named_end}
-use Rattle.tcl_interp.proofs.whole.with_all.Goals as goal
+use Rattle.tcl_interp.proofs.calls.with_all.Goals as goal
 
 pub returns-clause-ok : goal.returns-clause-ok
 returns-clause-ok g c =

@@ -2,7 +2,7 @@ use Rattle.std.proofs.Common.{◌≡◌, ◌+◌, drop, subst, arith}
 use Rattle.tcl_interp.specs.Simple.{CommandEnds, GivesWord}
 use Rattle.tcl_interp.proofs.SimpleLemmas.{written_gives}
 use Rattle.tcl_interp.proofs.WholeLemmas.{two_end}
-use Rattle.tcl_interp.proofs.whole.with_written_first.Goals as goal
+use Rattle.tcl_interp.proofs.calls.with_written_first.Goals as goal
 
 pub returns-clause-ok : goal.returns-clause-ok
 returns-clause-ok g c =

@@ -2,7 +2,7 @@ use Rattle.std.proofs.Common.{drop}
 use Rattle.tcl_interp.specs.Simple.{GivesWord}
 use Rattle.tcl_interp.proofs.SimpleLemmas.{written_gives}
 use Rattle.tcl_interp.proofs.WholeLemmas.{one_ends}
-use Rattle.tcl_interp.proofs.whole.with_written.Goals as goal
+use Rattle.tcl_interp.proofs.calls.with_written.Goals as goal
 
 pub returns-clause-ok : goal.returns-clause-ok
 returns-clause-ok g c =

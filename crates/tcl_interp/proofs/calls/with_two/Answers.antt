@@ -1,7 +1,7 @@
 use Rattle.std.proofs.Common.{drop}
 use Rattle.tcl_interp.specs.Simple.{GivesWord}
 use Rattle.tcl_interp.proofs.WholeLemmas.{two_end}
-use Rattle.tcl_interp.proofs.whole.with_two.Goals as goal
+use Rattle.tcl_interp.proofs.calls.with_two.Goals as goal
 
 pub returns-clause-ok : goal.returns-clause-ok
 returns-clause-ok g c =

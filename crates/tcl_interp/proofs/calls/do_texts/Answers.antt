@@ -2,7 +2,7 @@ use Rattle.std.proofs.Common.{◌++◌, ℕ, List, [], ◌∷◌, drop}
 use Rattle.tcl_vars.specs.Store.{Store}
 use Rattle.tcl_interp.specs.Simple.{EndsCall, WordsLead}
 use Rattle.tcl_interp.proofs.SimpleLemmas.{named_end}
-use Rattle.tcl_interp.proofs.whole.do_texts.Goals as goal
+use Rattle.tcl_interp.proofs.calls.do_texts.Goals as goal
 
 pub returns-clause-ok : goal.returns-clause-ok
 returns-clause-ok g c =

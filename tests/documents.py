@@ -5,8 +5,8 @@ prints this.
 What is tested of a page: each link has to lead to a file of the repository, and to a heading where it names one; where the page says `NAME` in
 [FILE](PATH), that file has to define NAME; and each example has to answer what the page says. What else a page says is not. Without a PAGE the links
 of the crates' README.md are followed too, and each command that has a heading in docs/tcl.md or docs/tk.md has to stand in the index of its page, in the
-tables of docs/architecture.md and README.md, and in an example of its own section; no other command may stand there. The README.md of tests/ and of bench/ has to
-lead to each file of its folder.
+tables of docs/architecture.md and README.md, and in an example of its own section, where no other command may stand; and in the table by command of
+docs/costs.md. The README.md of tests/ and of bench/ has to lead to each file of its folder.
 
 The program is that which the gate left in crates/tkhost_main/out; with --try the sources are run without proof, by `rt try`. Four kinds of blocks are
 examples:
@@ -142,6 +142,8 @@ def lost_commands():
     }.items():
         yield from (f"{name} has a heading in {page_of[name]}, and isn't in {place}" for name in sorted(section_of.keys() - names))
         yield from (f"{name} is in {place}, and has no heading in docs/tcl.md or docs/tk.md" for name in sorted(names - section_of.keys()))
+    costs = in_first_cells((TOP / "docs" / "costs.md").read_text().partition("\n### By command\n")[2].split("\n### ")[0])
+    yield from (f"{name} has a heading in {page_of[name]}, and isn't in the table by command of docs/costs.md" for name in sorted(section_of.keys() - costs))
     for name, section in section_of.items():
         shown = "".join(re.findall(r"^```(?:tcl|session)\n(.*?)^```", section, re.M | re.S))
         if not re.search(r"(?<![^\s{[;])%s(?![^\s}\];])" % name, shown):

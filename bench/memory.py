@@ -77,6 +77,9 @@ class Row:
 
 ROWS = [
     Row("words of lists", LIST, "set e list; append e [string repeat { {*}$l} 100]; catch {eval $e}", 100 * 32_765),
+    Row("sequences of lists", LIST, "set e {event delete <<V>>}; append e [string repeat { {*}$l} 50]; eval $e", 50 * 32_765),
+    Row("items of lists", LIST + "; listbox .x", "set e {.x insert end}; append e [string repeat { {*}$l} 50]; catch {eval $e}", 50 * 32_765),
+    Row("paths of lists", LIST, "set e destroy; append e [string repeat { {*}$l} 50]; eval $e", 50 * 32_765),
     Row("lists of loops", LIST, "set e foreach; append e [string repeat { {*}$l} 100] { break}; eval $e", 50 * 32_765),
     Row("names of loops", "set n [string repeat {a } 64]", "set e foreach; append e [string repeat { $n 1} 10000] { break}; eval $e", 10000),
     Row("words put together", TEXT, "set e list; append e [string repeat { $x.} 1000]; catch {eval $e}", 1000),

@@ -135,7 +135,10 @@ COMMANDS = """after append array bind bindtags break button catch clock concat c
 # What nests: how a script goes into the next one, or a text into itself, and which error the 201st makes. Scripts count the application's own.
 NESTED_SCRIPTS = {
     "if": "if 1 {SCRIPT}", "while": "while 1 {SCRIPT; break}", "for": "for {} 1 {} {SCRIPT; break}", "foreach": "foreach a 1 {SCRIPT}", "switch": "switch a {a {SCRIPT}}", "eval": "eval {SCRIPT}",
-    "uplevel": "uplevel #0 {SCRIPT}", "catch": "catch {SCRIPT} m; if {$m ne {}} {error $m}", "brackets": "set m [SCRIPT]",
+    "uplevel": "uplevel #0 {SCRIPT}", "catch": "catch {SCRIPT} m; if {$m ne {}} {error $m}", "brackets": "set m [SCRIPT]", "procedures": "proc p[incr ::n] {} {SCRIPT}; p$::n",
+    "invoke": "button .b[incr n] -command {SCRIPT}; .b$n invoke", "bound scripts": "bind . <<V[incr n]>> {SCRIPT}; event generate . <<V$n>>", "timers in update": "after 0 {SCRIPT}; update",
+    "idle scripts in update": "after idle {SCRIPT}; update idletasks", "queued events in update": "bind . <<V[incr n]>> {SCRIPT}; event generate . <<V$n>> -when tail; update",
+    "destroyed windows": "frame .f[incr n]; bind .f$n <Destroy> {SCRIPT}; destroy .f$n",
 }
 NESTED_TEXTS = {
     "brackets": ("catch {%s} m; puts $m", "[", "set a x", "]", "limit reached: value"), "parentheses": ("puts [catch {expr {%s}} m]:$m", "(", "1", ")", "limit reached: value"),

@@ -110,6 +110,7 @@ VARIABLES = [
     Row("array unset, long names", f"set s {LONG}; " + times("keys", "set t($s$i) 1"), "array unset t *", {"keys": 4000, "n": 60000}),
     Row("array set", "set l {}; " + times("keys", "lappend l $i $i"), "array set t $l", {"keys": 4000}),
     Row("list, elements of long names", f"set s {LONG}; foreach k {{b c}} {{set a($s$k$s) 1}}; " + 'set e "list [string repeat {$a(${s}b$s) $a(${s}c$s) } %(words)d]"', "catch {eval $e}", {"words": 2300, "n": 32000}),
+    Row("incr of a long number", f"set z {NUMBER}", "incr z", {"n": 65000}),
     words("unset, long names", "unset -nocomplain", LONG, n=BYTES),
     Row("global, long names", f"set s {LONG}; set $s 1; " + 'proc p {} "global s; set t \\$s; global [string repeat {$t } %(words)d]"', "p", {"words": WORDS - 10, "n": BYTES}),
     Row("unset, long names through links", LINKED + 'set e "unset -nocomplain [string repeat {$t } %(words)d]"', "p", {"n": 65000, "links": 190, "words": WORDS - 10}),
@@ -133,6 +134,7 @@ CONTROL = [
     Row("foreach, many names", "set n [string repeat {a } %(n)d]; set e foreach; append e [string repeat { $n 1} %(pairs)d] { break}", "eval $e", {"n": TAGS, "pairs": 13090}),
     Row("foreach {*}$l ..", "set l [string repeat {a b } %(n)d]; set e foreach; append e [string repeat { {*}$l} %(lists)d] { break}", "eval $e", {"n": TAGS // 2, "lists": 10800}),
     Row("while, a long condition and body", "set c [string repeat 0|| %(m)d]0; set b [string repeat {#a\n} %(m)d]", "while $c $b", {"m": 21000}),
+    Row("for, a long condition and body", "set c [string repeat 0|| %(m)d]0; set b [string repeat {#a\n} %(m)d]", "for {} $c {} $b", {"m": 21000}),
     Row("a text of brackets read", r"set e [string repeat {[} %(deep)d][string repeat {[a]} %(m)d][string repeat {]} %(deep)d]", "proc p {} $e", {"deep": 190, "m": 21600}),
     Row("a text of indices read", r"set e [string repeat {$a(} %(deep)d][string repeat {$a(1)} %(m)d][string repeat {)} %(deep)d]", "proc p {} $e", {"deep": 190, "m": 12900}),
     Row("proc, many parameters", "set l [string repeat {a } %(n)d]", "proc p $l {}", {"n": TAGS}),
@@ -141,6 +143,7 @@ CONTROL = [
     words("eval, blanks", "eval", BLANKS, n=BYTES),
     words("uplevel, blanks", "uplevel #0", BLANKS, n=BYTES),
     words("error, continue, clock: too many words", "error", LONG, n=BYTES),
+    words("break, too many words", "break", LONG, n=BYTES),
     words("return, too many words", "return", LONG, n=BYTES),
     Row("catch, a long script", "set b [string repeat {#a\n} %(m)d]", "catch $b", {"m": 21000}),
     Row("rename", f"set h {LONG}; " + times("names", "proc $h$i {} {}"), "rename ${h}1 ${h}0", {"n": 60000, "names": 1000}),
@@ -150,6 +153,7 @@ CONTROL = [
 ]
 WINDOWS_OF = [
     pairs("frame, long numbers", "frame .g", "-w", NUMBER, n=65000),
+    pairs("label, long numbers", "label .g", "-padx", NUMBER, n=65000),
     pairs("configure, long numbers", ".f configure", "-w", NUMBER, before="frame .f; ", n=65000),
     Row("configure, all told", f"label .l -text {LONG} -textvariable {LONG} -bg {LONG} -fg {LONG}", "catch {.l configure}", {"n": 65000}),
     Row("destroy", "set text x; " + ROWS, "destroy .", {"windows": WINDOWS}),

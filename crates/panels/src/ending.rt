@@ -49,11 +49,11 @@ pub struct Ending {
 fn stands_of(alloc: Global, places: &[CommandPlace]) -> Result<Vec<Stand>, AllocError> {
     let mut stands = Vec::new(alloc);
     for place in places {
-        if let Some(span) = place.span {
+        if let Some(span) = &place.span {
             stands.push(Stand {
                 script: String::from_str(alloc, place.script.as_str())?,
-                start: span.start,
-                end: span.end,
+                start: span.start(),
+                end: span.end(),
                 is_in_body: place.is_in_body,
             })?;
         }

@@ -119,7 +119,7 @@ fn literal(alloc: Global, word: &Word) -> Result<Option<String>, AllocError>
 fn source_of<'a>(text: &'a [u8], word: &Word) -> &'a [u8]
     ensures { result.now ≡ source_of text.now word.now }
 {
-    between(text, word.span.start, word.span.end)
+    between(text, word.span.start(), word.span.end())
 }
 
 /// A text without its first byte and its last.
@@ -178,7 +178,7 @@ fn written(alloc: Global, body: &Body, word: &Word) -> Result<Vec<u8>, AllocErro
 fn body_of(alloc: Global, outer: &Body, word: &Word, form: Form) -> Result<Body, AllocError>
     ensures { IfOk result (λ body. passage_of body ≡ body_of form (passage_of outer.now) word.now) }
 {
-    let line = line_of(outer.text.as_slice(), word.span.start, outer.line);
+    let line = line_of(outer.text.as_slice(), word.span.start(), outer.line);
     let written = written(alloc, outer, word)?;
     let text = Vec::from_slice(alloc, without_plus(written.as_slice()))?;
     Ok(Body { text, line, form })
@@ -205,7 +205,7 @@ fn push_brackets(
 ) -> Result<(), AllocError>
     ensures { OnOk result (map passage_of bodies.new.items ≡ map passage_of bodies.old.items ++ brackets_in (line_of outer.now.line outer.now.text.items word.now.span.start) (source_of outer.now.text.items word.now)) }
 {
-    let line = line_of(outer.text.as_slice(), word.span.start, outer.line);
+    let line = line_of(outer.text.as_slice(), word.span.start(), outer.line);
     let source = source_of(outer.text.as_slice(), word);
     brackets_of(alloc, source, line, bodies)
 }
@@ -306,7 +306,7 @@ fn push_call(
     let own = command.words.as_slice();
     let words = texts_of(alloc, own)?;
     push_inners(alloc, outer, own, words.as_slice(), bodies)?;
-    let line = line_of(outer.text.as_slice(), command.span.start, outer.line);
+    let line = line_of(outer.text.as_slice(), command.span.start(), outer.line);
     let is_open = is_open(own);
     Ok(calls.push(Call {
         line,

@@ -35,7 +35,7 @@ impl CommandPlace {
         ensures body { IfOk result (λ place. place.is_in_body ≡ is_in_body) }
     {
         let span = match script.commands().get(index) {
-            Some(command) => Some(command.span),
+            Some(command) => Some(command.span.copy()),
             None => None,
         };
         Ok(CommandPlace {

@@ -44,3 +44,4 @@ mod ReadingExamples
 pub mod Steps
 pub mod Texts
 pub mod SliceLemmas
+pub mod Taken

@@ -7,11 +7,18 @@ use Rattle.tcl_words.specs.declared.script.Piece.{Piece}
 use Rattle.tcl_words.specs.declared.script.Piece.TheVariants.{Literal, Variable, Element, Bracket}
 use Rattle.tcl_words.specs.declared.script.Word.{Word}
 use Rattle.tcl_words.specs.declared.script.Command.{Command}
+use Rattle.tcl_words.specs.Lists.{piece_items, word_items, command_items}
+use Rattle.tcl_words.specs.declared.script.PieceList.{PieceList}
+use Rattle.tcl_words.specs.declared.script.PieceList.TheVariants.{One as OnePiece, Many as ManyPieces}
+use Rattle.tcl_words.specs.declared.script.WordList.{WordList}
+use Rattle.tcl_words.specs.declared.script.WordList.TheVariants.{One as OneWord, Many as ManyWords}
+use Rattle.tcl_words.specs.declared.script.CommandList.{CommandList}
+use Rattle.tcl_words.specs.declared.script.CommandList.TheVariants.{One as OneCommand, Many as ManyCommands}
 use Rattle.tcl_words.specs.declared.script.Pieces.TheInside.{Inside as PiecesInside}
 use Rattle.tcl_words.specs.declared.script.Words.TheInside.{Inside as WordsInside}
 use Rattle.tcl_words.specs.declared.script.Index.TheInside.{Inside as IndexInside}
 use Rattle.tcl_words.specs.declared.script.Script.TheInside.{Inside as ScriptInside}
-use Rattle.tcl_words.specs.declared.script.Index.TheDeep.{deep-Piece, deep-Word, deep-Command, deep-Words, deep-Pieces, deep-Index, deep-Script}
+use Rattle.tcl_words.specs.declared.script.Index.TheDeep.{deep-Piece, deep-PieceList, deep-Word, deep-WordList, deep-Command, deep-CommandList, deep-Words, deep-Pieces, deep-Index, deep-Script}
 
 piece_most : (piece : Piece) → deep-Piece piece ≤ piece_room piece
 piece_most (Literal text) = omega arith
@@ -31,15 +38,27 @@ commands_most : (commands : List Command) → most deep-Command commands ≤ com
 commands_most [] = omega arith
 commands_most (command ∷ commands) = omega (arith, commands_most commands)
 
-pub pieces_fall : (a : PiecesInside) → deep-Pieces a ≤ pieces_room a.pieces.items
-pieces_fall a = omega (arith, pieces_most a.pieces.items)
+piece_list_most : (list : PieceList) → deep-PieceList list ≤ pieces_room (piece_items list)
+piece_list_most (OnePiece piece) = omega (arith, piece_most piece)
+piece_list_most (ManyPieces pieces) = omega (arith, pieces_most pieces.items)
 
-pub words_fall : (a : WordsInside) → deep-Words a ≤ words_room a.words.items
-words_fall a = omega (arith, words_most a.words.items)
+word_list_most : (list : WordList) → deep-WordList list ≤ words_room (word_items list)
+word_list_most (OneWord word) = omega arith
+word_list_most (ManyWords words) = omega (arith, words_most words.items)
+
+command_list_most : (list : CommandList) → deep-CommandList list ≤ commands_room (command_items list)
+command_list_most (OneCommand command) = omega arith
+command_list_most (ManyCommands commands) = omega (arith, commands_most commands.items)
+
+pub pieces_fall : (a : PiecesInside) → deep-Pieces a ≤ pieces_room (piece_items a.list)
+pieces_fall a = omega (arith, piece_list_most a.list)
+
+pub words_fall : (a : WordsInside) → deep-Words a ≤ words_room (word_items a.list)
+words_fall a = omega (arith, word_list_most a.list)
 
 pub index_falls : (a : IndexInside) → pieces_room a.parsed.value.pieces < text_room a.parsed.value.text → deep-Index a ≤ text_room a.parsed.value.text
 index_falls a h = omega arith
 
-pub script_falls : (a : ScriptInside) → commands_room a.parsed.value.commands.items ≤ text_room a.parsed.value.text →
+pub script_falls : (a : ScriptInside) → commands_room (command_items a.parsed.value.commands) ≤ text_room a.parsed.value.text →
     deep-Script a ≤ text_room a.parsed.value.text
-script_falls a h = omega (arith, commands_most a.parsed.value.commands.items)
+script_falls a h = omega (arith, command_list_most a.parsed.value.commands)

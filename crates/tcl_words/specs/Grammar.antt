@@ -8,6 +8,7 @@ use Rattle.std.specs.Str.{IsUtf8}
 use Rattle.tcl_text.specs.Bytes.{tab, line_feed, space, quote, hash, dollar_sign, open_paren, close_paren, star, colon, semicolon, open_bracket, backslash_sign, close_bracket, open_brace, close_brace}
 use Rattle.tcl_text.specs.Backslash.{escape}
 use Rattle.tcl_words.specs.Classes.{class_of, is_name_byte, begins_newline, begins_expansion}
+use Rattle.tcl_words.specs.Places.{Stretch}
 use Rattle.tcl_words.specs.Spans.{command_from, word_of}
 use Rattle.tcl_words.specs.declared.kind.Mode.{Mode}
 use Rattle.tcl_words.specs.declared.kind.Mode.TheVariants.{Bare, Quotes, Parens}
@@ -15,7 +16,6 @@ use Rattle.tcl_words.specs.declared.kind.Kind.{Kind}
 use Rattle.tcl_words.specs.declared.kind.Kind.TheVariants.{Blank, Newline, Semicolon, Dollar, OpenBracket, CloseBracket, Backslash, Continuation}
 use Rattle.tcl_words.specs.declared.script.WordForm.{WordForm}
 use Rattle.tcl_words.specs.declared.script.WordForm.TheVariants.{Bare as BareForm, Quoted as QuotedForm, Braced as BracedForm}
-use Rattle.tcl_words.specs.declared.script.Span.{Span}
 use Rattle.tcl_words.specs.declared.script.Piece.{Piece}
 use Rattle.tcl_words.specs.declared.script.Piece.TheVariants.{Literal, Variable, Element, Bracket}
 use Rattle.tcl_words.specs.declared.script.Word.{Word}
@@ -359,7 +359,7 @@ IsIndexParse text (Ok pieces) = IsIndexOf text pieces
 IsIndexParse text (Err fault) = IsIndexFault text fault
 
 -- the span is where this part stands in the text
-abbrev pub IsSlice : List ℕ → Span → List ℕ → Type 0
+abbrev pub IsSlice : List ℕ → Stretch → List ℕ → Type 0
 IsSlice text span own =
     (before : List ℕ) × (after : List ℕ) × (text ≡ before ++ (own ++ after)) × (span ≡ record { start = length before; end = length before + length own })
 

@@ -10,6 +10,8 @@ pub mod Reading
 pub mod Falls
 pub mod Parts
 pub mod Room
+pub mod Lists
+pub mod Places
 pub mod Spans
 pub mod Grammar
 pub mod Joining

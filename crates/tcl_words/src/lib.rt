@@ -11,6 +11,8 @@ mod parser;
 mod read;
 mod reader;
 mod script;
+mod span;
+mod taking;
 
 pub use laws::{
     braces_are_cut, commands_are_read, faults_are_told, indices_are_read, lines_are_a_script,
@@ -19,5 +21,6 @@ pub use laws::{
 pub use operands::{Found, bracket_behind, quotes_behind, substitution_behind};
 pub use parser::parse;
 pub use reader::MAX_DEPTH;
-pub use script::{Command, Index, Piece, Pieces, Script, Span, Word, WordForm, Words};
+pub use script::{Command, Index, Piece, Pieces, Script, Word, WordForm, Words};
+pub use span::Span;
 pub use tcl_text::ParseFault;

@@ -4,7 +4,8 @@ ghost use Rattle.std.specs.Str.{IsCharBoundary};
 ghost use Rattle.tcl_words.specs.Parts.{MayEnd, with_word, with_command, with_piece, with_literal, with_braced, so_far, no_parts};
 ghost use Rattle.tcl_text.specs.Limits.{most_bytes};
 
-use crate::script::{Command, Piece, Pieces, Span, Word, WordForm, Words};
+use crate::script::{Command, Piece, Pieces, Word, WordForm, Words};
+use crate::span::Span;
 use std::alloc::{AllocError, Global};
 use std::marker::Model;
 use std::mem;
@@ -28,7 +29,8 @@ pub struct Open {
 
 impl Model for Open {
     ghost use Rattle.tcl_words.specs.Parts.{Parts};
-    ghost use Rattle.std.specs.Prelude.{◌≡◌, string_bytes};
+    ghost use Rattle.std.specs.Prelude.{◌≡◌, ◌≤◌, string_bytes};
+    ghost use Rattle.tcl_text.specs.Limits.{most_bytes};
     ghost use Rattle.tcl_words.specs.Spans.{words_end};
 
     ghost Value = { Parts };
@@ -45,7 +47,9 @@ impl Model for Open {
       mark = o.mark;
     } };
 
-    ghost invariant = { λ o. o.last_end ≡ words_end o.command_start o.words.items };
+    ghost invariant = { λ o.
+        (o.last_end ≡ words_end o.command_start o.words.items)
+        × ((o.command_start ≤ most_bytes) × ((o.last_end ≤ most_bytes) × (o.word_start ≤ most_bytes))) };
 }
 
 impl Open {
@@ -76,19 +80,20 @@ impl Open {
     }
 
     /// The pieces.
-    pub fn into_pieces(self) -> Vec<Piece>
-        ensures { result.items ≡ self.pieces }
+    pub fn into_pieces(self, alloc: Global) -> Pieces
+        ensures { result ≡ self.pieces }
     {
-        let Open { pieces, .. } = self;
-        pieces
+        let Open { mut pieces, .. } = self;
+        Pieces::taken(alloc, &mut pieces)
     }
 
     /// A command begins here.
-    pub fn begin_command(&mut self, alloc: Global, at: usize)
+    pub fn begin_command(&mut self, at: usize)
+        requires { at ≤ most_bytes }
         ensures { self.new ≡ record self.old { command_start = at; words = [] } }
     {
         self.command_start = at;
-        self.words = Vec::new(alloc);
+        self.words.clear();
         self.last_end = at;
     }
 
@@ -101,12 +106,13 @@ impl Open {
         at: usize,
         mark: usize,
     )
+        requires { at ≤ most_bytes }
         ensures { self.new ≡ record self.old { word_start = at; form = form; expand = expand; pieces = []; literal = []; mark = mark } }
     {
         self.word_start = at;
         self.form = form;
         self.expand = expand;
-        self.pieces = Vec::new(alloc);
+        self.pieces.clear();
         self.literal = String::new(alloc);
         self.mark = mark;
     }
@@ -189,17 +195,15 @@ impl Open {
 
     /// The word that is open ends.
     pub fn end_word(&mut self, alloc: Global, end: usize) -> Result<(), AllocError>
+        requires { end ≤ most_bytes }
         ensures ok { OnOk result (self.new ≡ with_word self.old end) }
     {
-        let pieces = mem::replace(&mut self.pieces, Vec::new(alloc));
+        let pieces = Pieces::taken(alloc, &mut self.pieces);
         self.words.push(Word {
             form: self.form,
             expand: self.expand,
-            pieces: Pieces::from_vec(pieces),
-            span: Span {
-                start: self.word_start,
-                end,
-            },
+            span: Span::new(self.word_start, end),
+            pieces,
         })?;
         self.last_end = end;
         Ok(())
@@ -209,14 +213,11 @@ impl Open {
     pub fn end_command(&mut self, alloc: Global) -> Result<(), AllocError>
         ensures ok { OnOk result (self.new ≡ with_command self.old) }
     {
-        let words = mem::replace(&mut self.words, Vec::new(alloc));
+        let words = Words::taken(alloc, &mut self.words);
         let end = mem::replace(&mut self.last_end, self.command_start);
         self.commands.push(Command {
-            words: Words::from_vec(words),
-            span: Span {
-                start: self.command_start,
-                end,
-            },
+            span: Span::new(self.command_start, end),
+            words,
         })?;
         Ok(())
     }

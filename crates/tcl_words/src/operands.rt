@@ -161,7 +161,7 @@ pub fn quotes_behind(alloc: Global, source: &str, at: usize, room: usize) -> Fou
         match kind {
             Kind::Quote => {
                 parts.end_literal(alloc, text, next)?;
-                return Ok((Pieces::from_vec(parts.into_pieces()), next + 1));
+                return Ok((parts.into_pieces(alloc), next + 1));
             }
             _ => next = read_quoted(&mut parts, alloc, text, next, byte, kind, room)?,
         }

@@ -365,6 +365,7 @@ fn read_word(
 ) -> Result<Step, ParseFault>
     requires stands { StandsAt source.now at byte kind }
     requires begins { IsCharBoundary source.now at }
+    requires before { start ≤ at }
     ensures { DoesMove parts.old parts.new source.now at BytePlace.Between (at_word expand start kind byte at (drop (at + 1) source.now)) result }
 {
     match kind {
@@ -454,7 +455,7 @@ fn read_start(
         Kind::CloseBracket => Ok(Step::Ends),
         Kind::Hash => Ok(Step::On(0, BytePlace::Comment)),
         _ => {
-            parts.begin_command(alloc, at);
+            parts.begin_command(at);
             read_between(parts, alloc, source, at, byte, kind)
         }
     }

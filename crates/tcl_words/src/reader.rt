@@ -11,7 +11,7 @@ use crate::kind::{BytePlace, Mode, Opener, Step};
 use crate::nesting::{Origin, Reader, Waiting};
 use crate::open::{Open, text_of};
 use crate::read::{finish, read_byte, unfinished};
-use crate::script::{Command, Index, Piece, Pieces, Script};
+use crate::script::{Command, Index, Piece, Script};
 use std::alloc::Global;
 use std::mem;
 use tcl_text::ParseFault;
@@ -78,7 +78,7 @@ pub fn piece_of(
         Opener::Index(count) => {
             let name = text_of(alloc, source, base, base + count)?;
             let text = text_of(alloc, source, base + count + 1, base + close)?;
-            let index = Index::new(alloc, text, Pieces::from_vec(parts.into_pieces()))?;
+            let index = Index::new(alloc, text, parts.into_pieces(alloc))?;
             Ok(Piece::Element(name, index))
         }
     }

@@ -1,19 +1,12 @@
-ghost use Rattle.std.specs.Prelude.{◌≡◌, ◌⊎◌, length, IfOk, IfErr, IsOk};
+ghost use Rattle.std.specs.Prelude.{◌≡◌, ◌⊎◌, [], length, IfOk, IfErr, IsOk};
 
+use crate::span::Span;
+use crate::taking::{take_all, take_only};
 use std::alloc::{AllocError, Global};
 use std::marker::Model;
 use std::rc::Rc;
+use std::slice;
 use tcl_text::{ParseFault, Text};
-
-/// A stretch of the source, from its first byte up to the byte after its last. Its places count the bytes of the script that the
-/// part belongs to; in a script in brackets they count from behind the bracket.
-#[derive(Clone, Copy, Debug, PartialEq, Eq, Drop)]
-pub struct Span {
-    /// The place of the first byte.
-    pub start: usize,
-    /// The place past the last byte.
-    pub end: usize,
-}
 
 /// How a word is written (Tcl(n)).
 #[derive(Clone, Copy, Debug, PartialEq, Eq, Drop)]
@@ -30,8 +23,8 @@ pub enum WordForm {
 #[derive(Drop)]
 #[cycle(script)]
 pub struct Command {
-    pub words: Words,
     pub span: Span,
+    pub words: Words,
 }
 
 /// A word. Its value is its pieces' values, one after another; `expand` says that the value is a list whose
@@ -41,8 +34,8 @@ pub struct Command {
 pub struct Word {
     pub form: WordForm,
     pub expand: bool,
-    pub pieces: Pieces,
     pub span: Span,
+    pub pieces: Pieces,
 }
 
 /// A part of a word or of an index.
@@ -59,11 +52,20 @@ pub enum Piece {
     Bracket(Script),
 }
 
+/// How words are kept: most often there is one, which takes no memory of its own.
+#[derive(Drop)]
+#[cycle(script)]
+enum WordList {
+    One(Word),
+    /// Any others, in as much memory as they take.
+    Many(Vec<Word>),
+}
+
 /// Words in order.
 #[derive(Drop)]
 #[cycle(script)]
 pub struct Words {
-    words: Vec<Word>,
+    list: WordList,
 }
 
 impl Model for Words {
@@ -72,7 +74,9 @@ impl Model for Words {
 
     ghost Value = { List Word };
 
-    ghost view = { λ w. w.words.items };
+    ghost use Rattle.tcl_words.specs.Lists.{word_items};
+
+    ghost view = { λ w. word_items w.list };
 
     ghost use Rattle.tcl_words.specs.Room.{words_room};
 
@@ -83,11 +87,20 @@ impl Model for Words {
     ghost size_decreases = { λ a h. words_fall a };
 }
 
+/// How pieces are kept: most often there is one, which takes no memory of its own.
+#[derive(Drop)]
+#[cycle(script)]
+enum PieceList {
+    One(Piece),
+    /// Any others, in as much memory as they take.
+    Many(Vec<Piece>),
+}
+
 /// Pieces in order.
 #[derive(Drop)]
 #[cycle(script)]
 pub struct Pieces {
-    pieces: Vec<Piece>,
+    list: PieceList,
 }
 
 impl Model for Pieces {
@@ -96,7 +109,9 @@ impl Model for Pieces {
 
     ghost Value = { List Piece };
 
-    ghost view = { λ w. w.pieces.items };
+    ghost use Rattle.tcl_words.specs.Lists.{piece_items};
+
+    ghost view = { λ w. piece_items w.list };
 
     ghost use Rattle.tcl_words.specs.Room.{pieces_room};
 
@@ -105,6 +120,15 @@ impl Model for Pieces {
     ghost use Rattle.tcl_words.specs.Falls.{pieces_fall};
 
     ghost size_decreases = { λ a h. pieces_fall a };
+}
+
+/// How commands are kept: most often there is one, which takes no memory of its own.
+#[derive(Drop)]
+#[cycle(script)]
+enum CommandList {
+    One(Command),
+    /// Any others, in as much memory as they take.
+    Many(Vec<Command>),
 }
 
 /// What stands between the parentheses of `$name(index)`, read and shared by its copies. Contracts see its source, of which
@@ -155,7 +179,7 @@ pub struct Script {
 #[cycle(script)]
 struct Parsed {
     text: Text,
-    commands: Vec<Command>,
+    commands: CommandList,
 }
 
 impl Model for Script {
@@ -167,10 +191,12 @@ impl Model for Script {
 
     ghost use Rattle.std.specs.Prelude.{◌≡◌, ◌≤◌, Ok};
     ghost use Rattle.tcl_words.specs.Reading.{commands_of};
+    ghost use Rattle.tcl_words.specs.Lists.{command_items};
     ghost use Rattle.tcl_words.specs.Room.{text_room, commands_room};
 
     ghost invariant = { λ s.
-        (commands_of s.parsed.value.text ≡ Ok s.parsed.value.commands.items) × (commands_room s.parsed.value.commands.items ≤ text_room s.parsed.value.text) };
+        (commands_of s.parsed.value.text ≡ Ok (command_items s.parsed.value.commands))
+        × (commands_room (command_items s.parsed.value.commands) ≤ text_room s.parsed.value.text) };
 
     ghost size = { text_room };
 
@@ -180,34 +206,78 @@ impl Model for Script {
 }
 
 impl Words {
-    /// These words. It takes no memory.
-    pub(crate) fn from_vec(words: Vec<Word>) -> Words
-        ensures { result ≡ words.items }
+    /// These words, of which none are left.
+    pub(crate) fn taken(alloc: Global, words: &mut Vec<Word>) -> Words
+        ensures words { result ≡ words.old.items }
+        ensures none_left { words.new.items ≡ [] }
     {
-        Words { words }
+        let list = match take_only(words) {
+            Some(word) => WordList::One(word),
+            None => WordList::Many(take_all(alloc, words)),
+        };
+        Words { list }
     }
 
     /// The words, in order.
     pub fn as_slice(&self) -> &[Word]
         ensures { result.now ≡ self.now }
     {
-        self.words.as_slice()
+        match &self.list {
+            WordList::One(word) => slice::from_ref(word),
+            WordList::Many(words) => words.as_slice(),
+        }
     }
 }
 
 impl Pieces {
-    /// These pieces. It takes no memory.
-    pub(crate) fn from_vec(pieces: Vec<Piece>) -> Pieces
-        ensures { result ≡ pieces.items }
+    /// These pieces, of which none are left.
+    pub(crate) fn taken(alloc: Global, pieces: &mut Vec<Piece>) -> Pieces
+        ensures pieces { result ≡ pieces.old.items }
+        ensures none_left { pieces.new.items ≡ [] }
     {
-        Pieces { pieces }
+        let list = match take_only(pieces) {
+            Some(piece) => PieceList::One(piece),
+            None => PieceList::Many(take_all(alloc, pieces)),
+        };
+        Pieces { list }
     }
 
     /// The pieces, in order.
     pub fn as_slice(&self) -> &[Piece]
         ensures { result.now ≡ self.now }
     {
-        self.pieces.as_slice()
+        match &self.list {
+            PieceList::One(piece) => slice::from_ref(piece),
+            PieceList::Many(pieces) => pieces.as_slice(),
+        }
+    }
+}
+
+impl CommandList {
+    ghost use Rattle.std.specs.Prelude.{◌≡◌};
+    ghost use Rattle.tcl_words.specs.Lists.{command_items};
+
+    /// These commands.
+    fn of(mut commands: Vec<Command>) -> CommandList
+        ensures { command_items result ≡ commands.items }
+    {
+        match take_only(&mut commands) {
+            Some(command) => CommandList::One(command),
+            None => {
+                commands.shrink_to_fit();
+                CommandList::Many(commands)
+            }
+        }
+    }
+
+    /// The commands, in order.
+    fn as_slice(&self) -> &[Command]
+        ensures { result.now ≡ command_items self.now }
+    {
+        match self {
+            CommandList::One(command) => slice::from_ref(command),
+            CommandList::Many(commands) => commands.as_slice(),
+        }
     }
 }
 
@@ -244,6 +314,7 @@ impl Script {
         requires { commands_of text ≡ Ok commands.items }
         ensures { IfOk result (λ script. script ≡ text) }
     {
+        let commands = CommandList::of(commands);
         Ok(Script {
             parsed: Rc::new(alloc, Parsed { text, commands })?,
         })

@@ -19,4 +19,4 @@ returns-in-Quote c =
     ap (quoted_of c.args.room) (sym c.range_from-text.ensures.value)
     ∙ quoted_found c.args.room c.range_from-text.result.now c.loop-next.next c.look-byte.result.0 c.look-byte.result.1 c.loop-next.parts
     (record { within = c.loop-next-test.true; is = sym c.look-byte.ensures.byte; kind_is = c.look-byte.ensures.kind }) c.in-Quote.is c.loop-next.invariant.same
-    ∙ ap (λ p. Ok (p, c.loop-next.next + 1)) (sym (c.from_vec.ensures ∙ c.into_pieces.ensures ∙ ap (λ p. p.pieces) c.in_ok-end_literal-in-Quote.ensures.ok))
+    ∙ ap (λ p. Ok (p, c.loop-next.next + 1)) (sym (c.into_pieces.ensures ∙ ap (λ p. p.pieces) c.in_ok-end_literal-in-Quote.ensures.ok))

@@ -8,6 +8,7 @@ pub mod Rest
 pub mod SameInputs
 pub mod Shares
 pub mod Sizes
+pub mod Tallies
 pub mod Telling
 pub mod Ties
 pub mod Whole

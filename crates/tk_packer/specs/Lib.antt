@@ -2,6 +2,7 @@
 pub mod Arrangements
 pub mod Ask
 pub mod Asked
+pub mod Behind
 pub mod Changes
 pub mod Groups
 pub mod Kept

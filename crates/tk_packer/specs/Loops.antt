@@ -1,13 +1,8 @@
 -- Steps. What a walk over a list has found, with what the rest of the list gives.
 use Rattle.std.specs.Prelude.{ℕ, ◌+◌, min, max, List}
 use Rattle.tk_packer.specs.declared.ask.Ask.{Ask}
-use Rattle.tk_packer.specs.declared.parcel.Walk.{Walk}
 use Rattle.tk_packer.specs.declared.wanted.Reach.{Reach}
-use Rattle.tk_packer.specs.Parcels.{share, wanted, most_wanted}
-
--- the share that the walk comes to
-abbrev pub walked : Walk → List Ask → ℕ
-walked walk later = min walk.least (share walk.left walk.count later)
+use Rattle.tk_packer.specs.Parcels.{wanted, most_wanted}
 
 -- the length wanted, up to the bound
 abbrev pub reached : Reach → List Ask → ℕ

@@ -4,6 +4,7 @@
 mod arrangements;
 mod ask;
 mod asked;
+mod behind;
 mod changes;
 mod groups;
 mod kept;

@@ -1,11 +1,13 @@
 //! Parcels along one axis.
-ghost use Rattle.std.specs.Prelude.{◌≡◌, ◌+◌, ◌-◌, ◌^◌, ◌<◌, ◌≤◌, List, ◌∷◌};
+ghost use Rattle.std.specs.Prelude.{◌≡◌, ◌+◌, ◌^◌, ◌<◌, ◌≤◌, ◌∷◌, IfOk, IfSome, OnOk};
 ghost use Rattle.tk_packer.specs.Ask.{ask_of};
-ghost use Rattle.tk_packer.specs.declared.ask.Ask.{Ask};
+ghost use Rattle.tk_packer.specs.Behind.{IsTallied};
 ghost use Rattle.tk_packer.specs.Parcels.{share, taken, asks_of, span_packed, remaining, parcel_at, cavity_after, spare_before, length_in, span_in};
 
 use crate::ask::{Align, Ask, Axis, Edge};
+use crate::behind::{Behind, pass_first};
 use crate::request::Request;
+use std::alloc::{AllocError, Global};
 
 /// A stretch of an axis, in pixels.
 #[derive(Clone, Copy)]
@@ -14,74 +16,64 @@ pub struct Extent {
     pub length: u32,
 }
 
-/// A walk over what is packed after a window that expands.
-#[derive(Clone, Copy)]
-struct Walk {
-    /// The least share so far.
-    least: u64,
-    /// What is left of the cavity.
-    left: u64,
-    /// How many of those passed expand, the window that the walk began at included.
-    count: u64,
-}
-
-impl Walk {
-    ghost use Rattle.tk_packer.specs.Loops.{walked};
-
-    /// The walk past one more.
-    #[tactic(auto, unfolding(crate::specs::Parcels::share))]
-    fn past(self, ask: &Ask) -> Walk
-        requires counted { 0 < self.count }
-        requires few { self.count < 2 ^ 64 - 1 }
-        ensures share { (later : List Ask) → walked result later ≡ walked self (ask.now ∷ later) }
-        ensures counted { 0 < result.count }
-        ensures few { result.count ≤ self.count + 1 }
-        ensures least { result.least ≤ self.least }
-    {
-        let beside = self.left.saturating_sub(ask.outer_length());
-        if ask.edge.is_none() {
-            return Walk {
-                least: self.least.min(beside / self.count),
-                ..self
-            };
-        }
-        Walk {
-            left: beside,
-            count: self.count + u64::from(ask.expands),
-            ..self
-        }
-    }
-}
-
-/// The share of a window that expands, from what it leaves of the cavity and those that expand so far: the least that falls to each of
-/// them at the end, or beside a window across.
-fn share(axis: Axis, free: u64, later: &[Request]) -> u64
-    ensures value { result ≡ share free 1 (asks_of axis later.now) }
-    ensures bound { result ≤ free }
+/// The windows behind one that expands: they are counted once, for it and all that come later.
+fn counted_behind(
+    alloc: Global,
+    axis: Axis,
+    behind: Option<Behind>,
+    later: &[Request],
+) -> Result<Behind, AllocError>
+    requires { IfSome behind (λ b. IsTallied b (asks_of axis later.now)) }
+    ensures { IfOk result (λ b. IsTallied b (asks_of axis later.now)) }
 {
-    let mut walk = Walk {
-        least: free,
-        left: free,
-        count: 1,
-    };
-    for request in later {
-        walk = walk.past(&Ask::of(axis, request));
+    match behind {
+        Some(counted) => Ok(counted),
+        None => Behind::of(alloc, axis, later),
     }
-    walk.least.min(walk.left / walk.count)
+}
+
+/// The share of a window that expands, from what it leaves of the cavity.
+#[tactic(auto, using(crate::proofs::Tallies::tally_some, crate::proofs::Tallies::tally_within))]
+fn share(
+    alloc: Global,
+    axis: Axis,
+    free: u64,
+    behind: &mut Option<Behind>,
+    later: &[Request],
+) -> Result<u64, AllocError>
+    requires { IfSome behind.old (λ b. IsTallied b (asks_of axis later.now)) }
+    ensures value { IfOk result (λ s. s ≡ share free 1 (asks_of axis later.now)) }
+    ensures bound { IfOk result (λ s. s ≤ free) }
+    ensures behind { OnOk result (IfSome behind.new (λ b. IsTallied b (asks_of axis later.now))) }
+{
+    let counted = counted_behind(alloc, axis, behind.take(), later)?;
+    let share = counted.share(free);
+    *behind = Some(counted);
+    Ok(share)
 }
 
 /// How much of the cavity the window's parcel takes.
-fn taken(axis: Axis, cavity: u32, ask: &Ask, later: &[Request]) -> u32
-    ensures value { result ≡ taken cavity ask.now (asks_of axis later.now) }
-    ensures bound { result ≤ cavity }
+fn taken(
+    alloc: Global,
+    axis: Axis,
+    cavity: u32,
+    ask: &Ask,
+    behind: &mut Option<Behind>,
+    later: &[Request],
+) -> Result<u32, AllocError>
+    requires { IfSome behind.old (λ b. IsTallied b (asks_of axis later.now)) }
+    ensures value { IfOk result (λ n. n ≡ taken cavity ask.now (asks_of axis later.now)) }
+    ensures bound { IfOk result (λ n. n ≤ cavity) }
+    ensures behind { OnOk result (IfSome behind.new (λ b. IsTallied b (asks_of axis later.now))) }
 {
     let outer = ask.outer_length();
     let share = if ask.expands {
-        share(axis, u64::from(cavity).saturating_sub(outer), later)
+        let free = u64::from(cavity).saturating_sub(outer);
+        share(alloc, axis, free, behind, later)?
     } else {
         0
     };
-    u64::from(cavity).min(outer + share) as u32
+    Ok(u64::from(cavity).min(outer + share) as u32)
 }
 
 impl Extent {
@@ -178,23 +170,28 @@ fn span_in(ask: &Ask, parcel: Extent) -> Option<Extent>
 /// Where a window of the cavity lies along an axis, and what of the cavity it leaves to those packed later.
 #[tactic(auto, unfolding(crate::specs::Parcels::span_packed, crate::specs::Parcels::remaining))]
 pub fn packed_first(
+    alloc: Global,
     axis: Axis,
     cavity: Extent,
+    behind: &mut Option<Behind>,
     request: &Request,
     later: &[Request],
-) -> (Option<Extent>, Extent)
-    requires { cavity.start + cavity.length < 2 ^ 32 }
-    ensures place { result.0 ≡ span_packed cavity (ask_of axis request.now) (asks_of axis later.now) }
-    ensures cavity { result.1 ≡ remaining cavity (ask_of axis request.now) (asks_of axis later.now) }
-    ensures end { result.1.start + result.1.length ≤ cavity.start + cavity.length }
+) -> Result<(Option<Extent>, Extent), AllocError>
+    requires end { cavity.start + cavity.length < 2 ^ 32 }
+    requires behind { IfSome behind.old (λ b. IsTallied b (ask_of axis request.now ∷ asks_of axis later.now)) }
+    ensures place { IfOk result (λ p. p.0 ≡ span_packed cavity (ask_of axis request.now) (asks_of axis later.now)) }
+    ensures cavity { IfOk result (λ p. p.1 ≡ remaining cavity (ask_of axis request.now) (asks_of axis later.now)) }
+    ensures end { IfOk result (λ p. p.1.start + p.1.length ≤ cavity.start + cavity.length) }
+    ensures behind { OnOk result (IfSome behind.new (λ b. IsTallied b (asks_of axis later.now))) }
 {
+    pass_first(behind);
     let ask = Ask::of(axis, request);
     match ask.edge {
-        None => (span_in(&ask, cavity), cavity),
+        None => Ok((span_in(&ask, cavity), cavity)),
         Some(edge) => {
-            let length = taken(axis, cavity.length, &ask, later);
+            let length = taken(alloc, axis, cavity.length, &ask, behind, later)?;
             let parcel = parcel_at(edge, cavity, length);
-            (span_in(&ask, parcel), cavity_after(edge, cavity, length))
+            Ok((span_in(&ask, parcel), cavity_after(edge, cavity, length)))
         }
     }
 }

@@ -31,10 +31,26 @@ pub fn arrange(
         start: 0,
         length: size.1,
     };
+    let mut beside = None;
+    let mut below = None;
     let mut rest = requests;
     while let Some((request, later)) = rest.split_first() {
-        let (across, columns_left) = packed_first(Axis::Horizontal, columns, request, later);
-        let (down, rows_left) = packed_first(Axis::Vertical, rows, request, later);
+        let (across, columns_left) = packed_first(
+            alloc,
+            Axis::Horizontal,
+            columns,
+            &mut beside,
+            request,
+            later,
+        )?;
+        let (down, rows_left) = packed_first(
+            alloc,
+            Axis::Vertical,
+            rows,
+            &mut below,
+            request,
+            later,
+        )?;
         places.push(rect_of(across, down))?;
         columns = columns_left;
         rows = rows_left;

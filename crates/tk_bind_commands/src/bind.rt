@@ -1,7 +1,9 @@
 //! The command `bind`.
-ghost use Rattle.std.specs.Prelude.{◌≡◌, ◌++◌, ◌<◌, map, IfOk, OnErr, Ok, codes};
+ghost use Rattle.std.specs.Prelude.{◌≡◌, ◌≢◌, ◌++◌, ◌<◌, length, map, IfOk, IfErr, OnErr, Ok, codes};
 ghost use Rattle.std.specs.Option.{option_copied};
 ghost use Rattle.tcl_text.specs.Answers.{Gives, answers};
+ghost use Rattle.tcl_text.specs.Limits.{most_bytes};
+ghost use Rattle.tcl_text.specs.Readings.{list_form};
 ghost use Rattle.tk_bind_commands.specs.Bind as spec;
 ghost use Rattle.tk_bind_commands.specs.Steps.{IsWithScript, IsWithWord};
 ghost use Rattle.tk_patterns.specs.Own.{script_of, sequences_of};
@@ -11,10 +13,11 @@ ghost use Rattle.tk_tree.specs.Shared as windows_of;
 
 use crate::answers::{sequence_in, test_tag};
 use std::alloc::{AllocError, Global};
-use tcl_text::answers::{Refusal, answered, copy_answer, text_answer, wrong_args};
+use tcl_text::answers::{Refusal, answered, copy_answer, limit_reached, text_answer, wrong_args};
 use tcl_text::items::list_answer;
+use tcl_text::lengths::longer;
 use tcl_text::message::Answer;
-use tcl_text::{Text, TextList};
+use tcl_text::{Text, TextFault, TextList};
 use tk_patterns::{BindFault, BindTable, Sequence};
 use tk_tree::Windows;
 
@@ -108,30 +111,41 @@ fn sequences_answer(
     ensures { Gives result (spec.list_words (windows_of.own_of slot windows.now) tag.now (own_of slot bindings.now)) }
 {
     let tag = test_tag(alloc, windows, slot, tag)?;
-    let list = sequences_in(alloc, bindings, slot, tag.as_str())?;
-    list_answer(alloc, list.as_slice())
+    sequences_listed(alloc, bindings, slot, tag.as_str())
 }
 
-/// The sequences of a tag in their canonical form, in the order of registration.
-fn sequences_in(
+/// The sequences of a tag in their canonical form, in the order of registration, or the error of a value past 65,536 bytes (4).
+#[tactic(auto, using(tcl_text::proofs::AnswerLemmas::bounds))]
+fn sequences_listed(
     alloc: Global,
     bindings: &BindTable,
     slot: usize,
     tag: &str,
-) -> Result<TextList, AllocError>
-    ensures { IfOk result (λ list. list ≡ map canonical (sequences_of tag.now (own_of slot bindings.now))) }
+) -> Result<Text, Refusal>
+    ensures { Gives result (spec.sequences_told tag.now (own_of slot bindings.now)) }
 {
     let sequences = bindings.sequences(slot, tag)?;
-    written(alloc, sequences.as_slice())
+    match written(alloc, sequences.as_slice()) {
+        Ok(list) => list_answer(alloc, list.as_slice()),
+        Err(TextFault::TooLong) => Err(limit_reached(alloc)),
+        Err(TextFault::NoMemory) => Err(Refusal::NoMemory),
+    }
 }
 
-/// Sequences in their canonical form.
-fn written(alloc: Global, sequences: &[Sequence]) -> Result<TextList, AllocError>
-    ensures { IfOk result (λ list. list ≡ map canonical sequences.now) }
+/// Sequences in their canonical form. `TooLong` where they are past 65,536 bytes by themselves; the others aren't spelled out then.
+fn written(alloc: Global, sequences: &[Sequence]) -> Result<TextList, TextFault>
+    ensures ok { IfOk result (λ list. list ≡ map canonical sequences.now) }
+    ensures too_long { IfErr result (λ fault. fault ≢ TextFault.NoMemory → most_bytes < length (list_form (map canonical sequences.now))) }
 {
     let mut list = TextList::new(alloc);
+    let mut sum = 0;
     for sequence in sequences {
-        list.push(sequence.canonical(alloc)?)?;
+        let text = sequence.canonical(alloc)?;
+        let Some(more) = longer(sum, text.as_str().len()) else {
+            return Err(TextFault::TooLong);
+        };
+        list.push(text)?;
+        sum = more;
     }
     Ok(list)
 }

@@ -1,5 +1,5 @@
 -- What a reply makes of an evaluation that asked: one move.
-use Rattle.std.proofs.Common.{◌≡◌, ℕ, Bool, true, false, List, ◌∷◌, Option, Some, Result, Ok, Err, refl, ap, sym, ◌∙◌}
+use Rattle.std.proofs.Common.{◌≡◌, ℕ, Bool, true, false, List, ◌∷◌, Option, Some, Result, Ok, Err, IfOk, refl, ap, sym, ◌∙◌}
 use Rattle.tcl_vars.specs.Store.{Store, variable_in, element_in}
 use Rattle.tcl_text.specs.declared.fault.ReadFault.{ReadFault}
 use Rattle.tcl_expr.specs.declared.ask.Ask.{Ask}
@@ -13,8 +13,11 @@ use Rattle.tcl_table.specs.Texts.{element_name}
 use Rattle.tcl_interp.specs.declared.expressions.Reply.{Reply}
 use Rattle.tcl_interp.specs.declared.expressions.Reply.TheVariants as reply
 use Rattle.tcl_interp.specs.Finish.{Begins, Evaluates, Ends, Waiting, ForValue}
-use Rattle.tcl_interp.specs.Moves.{Moved, moved, standing, value_given, asked_move}
-use Rattle.tcl_interp.specs.Quiet.{Moves}
+use Rattle.tcl_interp.specs.Moves.{Moved, Standing, moved, standing, value_given, asked_move}
+use Rattle.tcl_interp.specs.Quiet.{IsQuiet, Leads, Moves, MovesOn}
+use Rattle.tcl_interp.specs.Rests.{moved_of, standing_of}
+use Rattle.tcl_interp.specs.declared.machine.Frame.{Frame}
+use Rattle.tcl_interp.specs.declared.machine.Now.{Now}
 use Rattle.tcl_interp.specs.Replies.{found, reply_to}
 
 -- whether the evaluation that asked waits
@@ -62,3 +65,10 @@ module _ {K : Type 0} where
   replies_by store context room waits evaluation given next level asked replied at_level tells asks is =
       let same : reply_move room next waits replied ≡ asked_move (here context.levels store) store room next waits asked = ap (reply_move room next waits) is ∙ asked_moves level store room next waits asked ∙ ap (λ n. asked_move n store room next waits asked) at_level in
       (((Ok asked, next, tells.0, asks, same), refl, refl), ap is_waiting tells.1 ∙ reply_waits level store asked ∙ sym (ap waits_for is))
+
+  -- what begins there begins behind all moves before it
+  pub begins_on : {E : Type 0} (begun : Result (Now K) E) (frames : List (Frame K)) (store : Store) (context : Context) (from between : Standing K) (next : Moved K)
+      → Leads from between → IsQuiet between.moved → Moves between (standing next store context)
+      → IfOk begun (λ now. moved_of now frames ≡ next) → IfOk begun (λ now. MovesOn from (standing_of now frames store context))
+  begins_on (Ok now) frames store context from between next leads quiet moves is = (between, leads, quiet, rw is moves)
+  begins_on (Err fault) frames store context from between next leads quiet moves is = tt

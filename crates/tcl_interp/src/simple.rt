@@ -21,7 +21,8 @@ use crate::seen::Seen;
 use crate::steps::call;
 use crate::tasks::Tasks;
 use crate::words::{
-    Put, commands, expand_at, next_words, past_command, pieces_at, put_pieces, single_text, wait,
+    Put, commands, expand_at, next_words, past_command, pieces_at, put_pieces, shared_word,
+    single_text, wait,
 };
 use std::alloc::{AllocError, Global};
 use tcl_control::{Code, Context, End, Plan, info_plan, integer_of};
@@ -435,7 +436,8 @@ pub fn plain_words<T: Tasks>(
         else {
             return Ok(None);
         };
-        whole.push(found.text)?;
+        let text = shared_word(&whole, found.text)?;
+        whole.push(text)?;
         steps += found.steps;
         word += 1;
     }

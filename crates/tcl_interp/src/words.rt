@@ -172,8 +172,8 @@ pub fn expand_at(words: &[Word], index: usize) -> bool
 /// From how many bytes on a word is compared with the one in front of it.
 const SHARED_FROM: usize = 1_024;
 
-/// A word. Where the one in front of it is the same long text, it shares that one: what brackets make again and again takes room once.
-fn shared_word(whole: &TextList, text: Text) -> Result<Text, AllocError>
+/// A word. Where the one in front of it is the same long text, it shares that one: what brackets and pieces make again and again takes room once.
+pub fn shared_word(whole: &TextList, text: Text) -> Result<Text, AllocError>
     ensures { IfOk result (λ word. word ≡ text) }
 {
     if text.as_str().len() < SHARED_FROM {

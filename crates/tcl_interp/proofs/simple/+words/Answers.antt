@@ -36,7 +36,8 @@ plain_words-loop-word-preserved g n c =
     let whole = c.loop-word.whole in
     let gives : GivesWord outside c.args.room (drop i words) store context found.steps found.text = rw c.in-Some.is at c.in_ok-found.ensures.gives in
     let few : found.steps ≤ _ = rw c.in-Some.is at c.in_ok-found.ensures.most in
-    let longer : (before : List (List ℕ)) → (before ++ whole) ++ (found.text ∷ []) ≡ before ++ c.push.new.self = λ before. append_assoc before whole (found.text ∷ []) ∙ ap (λ all. before ++ all) (sym c.in_ok-push.ensures.ok) in
+    let longer : (before : List (List ℕ)) → (before ++ whole) ++ (found.text ∷ []) ≡ before ++ c.push.new.self = λ before. append_assoc before whole (found.text ∷ [])
+    ∙ ap (λ word. before ++ (whole ++ word ∷ [])) (sym c.in_ok-text.ensures) ∙ ap (λ all. before ++ all) (sym c.in_ok-push.ensures.ok) in
     let step : (before : List (List ℕ)) → WordsLead outside c.args.room store context (drop i words) (before ++ whole) found.steps (drop (i + 1) words) (before ++ c.push.new.self) = λ before.
     subst (λ all. WordsLead outside c.args.room store context (drop i words) (before ++ whole) found.steps (drop (i + 1) words) all) (longer before)
     (word_leads outside c.args.room words i store context found.steps found.text (before ++ whole) c.loop-word-test.true gives) in

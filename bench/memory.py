@@ -30,6 +30,11 @@ def brackets(count):
     return "set b [string repeat {[} 190][string repeat {[a]} %d][string repeat {]} 190]" % count
 
 
+def commands(count):
+    """Sets a script of 4 `count` bytes without brackets, which takes most of such as it is read: commands of two words."""
+    return r'set b [string repeat "a b\n" %d]' % count
+
+
 def failing(count):
     """An event whose script begins such a script, and that another one, until the sixteenth fails: no text is read twice."""
     there = " ".join("%d {}" % number for number in range(1, 1041) if number % 16)
@@ -86,6 +91,7 @@ ROWS = [
     Row("texts of loops", LIST, "set e foreach; append e [string repeat { a $l.} 100] { break}; eval $e", 100),
     Row("scripts of an event", TEXT + "; set t {}; " + times(1000, 'bind t$i <Key-x> "#[string range $x 9 end]%K"; lappend t t$i') + "; bindtags . $t", "event generate . <Key-x>", 1000),
     Row("bytes of a script", brackets(21_710), "catch {eval $b}", 65_510),
+    Row("bytes of commands", commands(16_380), "catch {eval $b}", 65_520),
     Row("items of other lists", TEXT, "catch {split $x {}}", 65_528),
     Row("pairs of one name", TEXT, "event add <<$x>> " + " ".join(SEQUENCES[:1000]), 1000),
     Row("lines", FEEDS, times(300, "puts $x."), 300),

@@ -3,6 +3,7 @@
  *   c_library play FILE SLICE  a whole session by tkhost_play
  *   c_library lines FILE SLICE the same line by line, by a host that lives
  *   c_library keep FILE SLICE  as lines, but the sections aren't written (to count instructions)
+ *   c_library asker            which application asked for memory, in a run of which refusing.c refuses one request
  *   c_library fuzz COUNT SEED  so many calls in a wrong order, with wrong values
  */
 #include "tkhost.h"
@@ -204,6 +205,7 @@ static void no_host(void) {
     IS(tkhost_end(&host, 0), TKHOST_NO_HOST);
     IS(tkhost_section(&host, 0, buffer, 3, &told), TKHOST_NO_HOST);
     IS(tkhost_turns(&host, turns, 1, &told), TKHOST_NO_HOST);
+    IS(tkhost_asker(&host, &told), TKHOST_NO_HOST);
     IS(memcmp(buffer, "abc", 4) == 0 && told == 9 && turns[0].slot == 7 && turns[0].steps == 8 && !host, 1);
 }
 
@@ -375,6 +377,7 @@ static void telling(void) {
     free(turns);
     IS(tkhost_advance(&host, 10), 0);
     told = 99;
+    IS(tkhost_asker(&host, &told), TKHOST_NO_APP);
     IS(tkhost_section(&host, 2, large, sizeof gauge + 3, &told), TKHOST_NO_APP);
     IS(tkhost_section(&host, SIZE_MAX, large, sizeof gauge + 3, &told), TKHOST_NO_APP);
     IS(told == 99 && large[0] == '#', 1);
@@ -454,6 +457,20 @@ static uint64_t value(void) {
     }
 }
 
+/* ---- memory that is refused */
+
+static int asker(void) {
+    tkhost_host *host = NULL;
+    size_t slot = 9;
+    if (tkhost_new(&host, 64) || add(&host, "one", 0, "set a b", 0) || add(&host, "two", 100, "set a b", 0)) {
+        tkhost_free(&host);
+        return 0;
+    }
+    uint32_t started = tkhost_start(&host), asked = tkhost_asker(&host, &slot);
+    printf("%u %u %zu\n", started, asked, slot);
+    return tkhost_free(&host) != 0;
+}
+
 static int fuzz(unsigned long count, uint64_t seed) {
     tkhost_host *hosts[3] = {NULL, NULL, NULL};
     unsigned long answers[128] = {0};
@@ -465,7 +482,7 @@ static int fuzz(unsigned long count, uint64_t seed) {
         tkhost_turn *turns = malloc((capacity / 8 + 1) * sizeof *turns);
         uint32_t answer = 127;
         struct line one = word(), other = word();
-        switch (pick(24)) {
+        switch (pick(25)) {
             case 0: answer = pick(8) ? 0 : tkhost_free(host); break;
             case 1: answer = tkhost_new(host, pick(4) ? 1 + pick(100) : value()); break;
             case 2: answer = tkhost_alias(host, one.at, one.length, (uint32_t)pick(7), other.at, other.length); break;
@@ -487,7 +504,8 @@ static int fuzz(unsigned long count, uint64_t seed) {
             case 19: answer = pick(6) ? 0 : tkhost_end(host, value()); break;
             case 20: answer = tkhost_section(host, (size_t)(pick(3) ? pick(4) : value()), buffer, capacity, &told); break;
             case 21: answer = tkhost_turns(host, turns, capacity / 8, &told); break;
-            case 22: answer = tkhost_text((uint32_t)pick(90), buffer, capacity, &told); break;
+            case 22: answer = tkhost_asker(host, &told); break;
+            case 23: answer = tkhost_text((uint32_t)pick(90), buffer, capacity, &told); break;
             default: answer = tkhost_play(one.at, one.length, pick(3), buffer, capacity, &told); break;
         }
         if (answer > 68) exit(1);
@@ -517,7 +535,8 @@ int main(int count, char **args) {
     if (count == 4 && strcmp(args[1], "play") == 0) return whole(args[2], strtoull(args[3], NULL, 10));
     if (count == 4 && strcmp(args[1], "lines") == 0) return by_lines(args[2], strtoull(args[3], NULL, 10), 1);
     if (count == 4 && strcmp(args[1], "keep") == 0) return by_lines(args[2], strtoull(args[3], NULL, 10), 0);
+    if (count == 2 && strcmp(args[1], "asker") == 0) return asker();
     if (count == 4 && strcmp(args[1], "fuzz") == 0) return fuzz(strtoul(args[2], NULL, 10), strtoull(args[3], NULL, 10));
-    fprintf(stderr, "usage: c_library calls | play FILE SLICE | lines FILE SLICE | keep FILE SLICE | fuzz COUNT SEED\n");
+    fprintf(stderr, "usage: c_library calls | play FILE SLICE | lines FILE SLICE | keep FILE SLICE | asker | fuzz COUNT SEED\n");
     return 2;
 }

@@ -7,6 +7,7 @@ what the gate left, of which `rt lib` would prove all again; where the gate left
 - c_library.c, which makes each call and each wrong use; also under valgrind, and with gcc's sanitizers of addresses and undefined behaviour;
 - each stored session by tkhost_play and line by line through tkhost_line, in slices of 1, 7 and 64 steps: the bytes that are stored beside it, or its fault;
 - random sessions in the same way: the bytes of the program that the gate left;
+- which application asked for memory, with each request refused in turn, one in each run;
 - calls in wrong orders with wrong values, 10,000 in each of three runs, of which one is sanitized;
 - the examples of contrib/c in C and C++, which write what README.md shows, the blocks of code of README.md and docs/embedding.md, which stand in contrib/, and the
   tests of contrib/python and contrib/rust.
@@ -266,6 +267,20 @@ def wrong_orders(told, plain, sanitized, count):
         told.add("calls in wrong orders", None if ended.returncode == 0 and not ended.stderr else f"ended with {ended.returncode}: {ended.stderr[-1500:].decode()}", done or 1)
 
 
+def refused_requests(told, plain, folder):
+    """Which application asked for memory, where one request is refused, until a run meets no refusal."""
+    library, met = folder / "refusing.so", folder / "met"
+    must(["gcc", "-shared", "-fPIC", "-O1", "-o", library, TOP / "tests" / "refusing.c", "-ldl"])
+    number, heard = 0, set()
+    while not number or met.stat().st_size:
+        number += 1
+        ended = run(["sh", "-c", 'LD_PRELOAD="$1" REFUSE="$2" exec "$0" asker 9>"$3"', plain, library, str(number), met])
+        heard.add((ended.returncode, ended.stdout.decode()))
+    # (the start's answer, the asker's, and the slot; nothing where applications couldn't be added)
+    wanted = {(0, said) for said in ("", "0 37 9\n", "64 0 0\n", "64 0 1\n")}
+    told.add("refused requests", None if heard == wanted else f"{sorted(heard)}", number - 1)
+
+
 def main():
     words = sys.argv[1:]
     if words not in ([], ["--whole"]):
@@ -293,6 +308,7 @@ def main():
         wrappers(told, prefix, folder)
         stored_sessions(told, plain)
         random_sessions(told, plain, folder, 300 if whole else 30)
+        refused_requests(told, plain, folder)
         wrong_orders(told, plain, sanitized, 100_000 if whole else 10_000)
         if whole:
             cost_of_lines(told, plain, folder)

@@ -3,20 +3,28 @@
 them fewer and fewer, so that a session that asks ten thousand times is run some eleven hundred times. --whole refuses each in turn, of ten sessions with
 all kinds of calls and of all tables, which takes a minute of four processors.
 
-The programs are those that the gate left in crates/NAME/out. A session whose run is refused memory must end with status 4, its line on standard error, and nothing written, or else
+The programs are those that the gate left in crates/NAME/out. A session whose run is refused memory must end with status 4, its line on standard error, with one behind it that names
+one of its applications or none, and nothing written, or else
 write what is stored (the standard library's `collect` asks first for room that it can do without); one that isn't refused memory must
-write what is stored. A program of tables asks a question that failed once more: what a call that was refused memory was put to is as it was, so the
+write what is stored. `panels` must end with status 4 so, too, where it plays a bench or takes lines, and of what it writes only a front may be
+written then; a stream or a file that isn't read for want of memory it tells as such, with status 2. A program of tables asks a question that failed once more: what a call that was refused memory was put to is as it was, so the
 answer and all behind it are those of the table. Where a question changes something and is then refused the memory for its answer (LATE), asking again does
 it twice: there other answers may come, but only behind such a question, or that tell of want of memory. Where the program itself wanted the memory, it tells
 so and ends."""
 import concurrent.futures, os, re, signal, subprocess, sys, tempfile
-from programs import CRATES, EXAMPLES, HOST, TABLES_OF_HOSTS, TABLES_OF_TCL, TABLES_OF_TK, TOP, built
+from programs import BENCHES, CRATES, EXAMPLES, HOST, TABLES_OF_HOSTS, TABLES_OF_TCL, TABLES_OF_TK, TOP, built
 
 # These sessions ask for memory more than ten thousand times, by the same calls as others.
 LONG = {"conditions-by-expressions", "limit-of-procedures", "nested-too-deep"}
+# The line of a run that was refused memory, behind which another tells which application asked, if one did.
+LACK = b"tkhost: out of memory\n"
 # Sessions with all kinds of calls: scripts, windows, bindings, timers, events of each kind, destruction, aliases.
 ALL_KINDS = ("hello-and-bye", "two-buttons", "three-frames", "destroy-in-destroy", "timer-before-key", "nested-generate", "alias-per-app",
              "press-and-drag-off", "entry-typing", "listbox-click")
+# What panels is run with, and what it reads.
+PANELS = ((("run", "examples/panels/runaway.toml"), b""), (("live",), (EXAMPLES / "two-buttons.session").read_bytes()))
+# What panels says where a stream or a file isn't read.
+UNREAD = rb"panels: read or write fault\n|.* can't be read.*\n"
 # Tables, and the program that reads each.
 TABLES = {
     **dict.fromkeys(("commands/few", "expressions/few", "kept", "runs/few", "scopes", "scripts/few", "slices", "texts"), TABLES_OF_TCL),
@@ -62,15 +70,44 @@ def session_faults(program, library, whole, session):
     """What is wrong with the runs of a session, and how many met a refusal."""
     text, expected = session.read_bytes(), session.with_suffix(".expected")
     wanted = (0, expected.read_bytes(), b"")
+    names = [line.split()[1] for line in expected.read_bytes().split(b"\n") if line.startswith(b"app ")]
+    starved = {(4, b"", LACK + line): line for line in (b"", *(b"tkhost: memory was refused to %b\n" % name for name in names))}
+    askers = set()
     if not expected.exists():
         return [], 0
     for number in requests(whole):
         got, met = run([program], number, library, text)
         if not met:
-            return ([] if got == wanted else [f"{session.stem}: without a refusal {got}"]), number - 1
-        if got not in ((4, b"", b"tkhost: out of memory\n"), wanted):
+            if got != wanted:
+                return [f"{session.stem}: without a refusal {got}"], number - 1
+            # (of many applications some ask too seldom for each to be met)
+            unheard = [line for line in starved.values() if line not in askers] if whole or len(names) < 2 else []
+            return [f"{session.stem}: never told: {line}" for line in unheard], number - 1
+        if got not in (wanted, *starved):
             return [f"{session.stem}: with request {number} refused {got}"], number
+        askers.add(starved.get(got))
     return [f"{session.stem}: no end"], number
+
+
+def panels_faults(program, library, whole, words, text):
+    """What is wrong with the runs of panels, and how many met a refusal."""
+    wanted, _ = run([program, *words], 0, library, text)
+    names = re.findall(rb"^app (\w+) ", wanted[1], re.M)
+    lines = [b"", *(b"panels: memory was refused to %b\n" % name for name in names)]
+    starved, told = {b"panels: out of memory\n" + line: line for line in lines}, set()
+    if wanted[0] or not names:
+        return [f"{words}: {wanted}"], 0
+    for number in requests(whole):
+        got, met = run([program, *words], number, library, text)
+        if not met:
+            unheard = [line for line in lines if line not in told] if whole or len(told) < 2 else []
+            return [f"{words}: never told: {line}" for line in unheard], number - 1
+        # (what is read by streams fails as they do, whatever it is that they lack)
+        if got != wanted and not (got[0] == 2 and re.fullmatch(UNREAD, got[2]) and wanted[1].startswith(got[1])):
+            if got[0] != 4 or not wanted[1].startswith(got[1]) or got[2] not in starved:
+                return [f"{words}: with request {number} refused {got}"], number
+            told.add(starved[got[2]])
+    return [f"{words}: no end"], number
 
 
 def tells_of_memory(said):
@@ -107,6 +144,7 @@ def main():
         subprocess.run(["gcc", "-shared", "-fPIC", "-O1", "-o", library, TOP / "tests" / "refusing.c", "-ldl"], check=True)
         sessions = [s for s in sorted(EXAMPLES.rglob("*.session")) if s.with_suffix(".expected").exists() and s.stem not in LONG]
         runs = [(s.stem, session_faults, built(HOST), s) for s in sessions if not whole or s.stem in ALL_KINDS]
+        runs += [(" ".join(("panels", *words)), panels_faults, built(BENCHES), words, text) for words, text in PANELS]
         runs += [(table, table_faults, built(name), table) for table, name in TABLES.items()]
         with concurrent.futures.ProcessPoolExecutor(len(os.sched_getaffinity(0))) as pool:
             jobs = [(name, pool.submit(faults, program, library, whole, *rest)) for name, faults, program, *rest in runs]

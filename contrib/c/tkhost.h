@@ -20,8 +20,8 @@
  * each other, and may be used by two threads at once.
  *
  * Memory. It comes from the program's malloc, realloc and free, and goes back with tkhost_free. Where it is refused, the answer is TKHOST_NO_MEMORY; a
- * call that was running applications leaves the host broken then, and each further one is refused (TKHOST_BROKEN) but tkhost_free. No call may come from a
- * signal handler, nor from the forked child of a program with threads.
+ * call that was running applications leaves the host broken then, and each further one is refused (TKHOST_BROKEN) but tkhost_turns, tkhost_asker and tkhost_free.
+ * No call may come from a signal handler, nor from the forked child of a program with threads.
  *
  * Time. "Steps" are those that a budget counts: each command, each test of a loop and each script that an event or timer starts. A call takes at most the
  * steps that the applications have left and are granted, so it always returns.
@@ -160,6 +160,12 @@ uint32_t tkhost_section(tkhost_host **host, size_t slot, uint8_t *buffer, size_t
  * TKHOST_TOO_SMALL too. Time: their number. Memory: none.
  */
 uint32_t tkhost_turns(tkhost_host **host, tkhost_turn *turns, size_t capacity, size_t *told);
+
+/*
+ * Tells the slot of the application that asked for the memory that was refused, once the host is broken. Before that TKHOST_NO_APP, which leaves *slot.
+ * Time: constant. Memory: none.
+ */
+uint32_t tkhost_asker(tkhost_host **host, size_t *slot);
 
 /* Writes what a number says, in words, without a NUL; at most 48 bytes. *told is their length, with TKHOST_TOO_SMALL too. It takes no memory. */
 uint32_t tkhost_text(uint32_t number, uint8_t *buffer, size_t capacity, size_t *told);

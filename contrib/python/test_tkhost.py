@@ -24,6 +24,7 @@ class Calls(unittest.TestCase):
             host.advance(10)
             self.assertEqual(host.section_bytes(1), GAUGE)
             self.assertEqual(host.turns(), [Turn(1, 2)])
+            self.assertIsNone(host.asker())
             self.refused(Number.NO_APP, host.section, 2)
 
     def test_lines_of_each_kind(self):

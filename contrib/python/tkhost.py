@@ -156,7 +156,7 @@ for _name, _types in {
     "press": [_HOST, _U64, _U32], "release": [_HOST, _U64, _U32], "keydown": [_HOST, _U64, _BYTES, _SIZE], "keyup": [_HOST, _U64, _BYTES, _SIZE],
     "focus": [_HOST, _U64, _SIZE], "unfocus": [_HOST, _U64], "rect": [_HOST, _U64, _SIZE, _U32, _U32, _U32, _U32], "line": [_HOST, _BYTES, _SIZE],
     "advance": [_HOST, _U64], "end": [_HOST, _U64], "section": [_HOST, _SIZE, _BYTES, _SIZE, _TOLD], "turns": [_HOST, ctypes.POINTER(_Turn), _SIZE, _TOLD],
-    "text": [_U32, _BYTES, _SIZE, _TOLD],
+    "asker": [_HOST, _TOLD], "text": [_U32, _BYTES, _SIZE, _TOLD],
 }.items():
     _call = getattr(_lib, f"tkhost_{_name}")
     _call.argtypes, _call.restype = _types, _U32
@@ -299,3 +299,13 @@ class Host:
             if answer != Number.TOO_SMALL:
                 raise Fault(answer)
             capacity = told.value
+
+    def asker(self) -> Optional[int]:
+        """The slot of the application that asked for the memory that was refused, once the host is broken."""
+        slot = ctypes.c_size_t()
+        answer = _lib.tkhost_asker(self._handle, slot)
+        if answer == Number.NO_APP:
+            return None
+        if answer:
+            raise Fault(answer)
+        return slot.value

@@ -44,6 +44,7 @@ mod sys {
         pub fn tkhost_end(host: *mut Handle, moment: u64) -> u32;
         pub fn tkhost_section(host: *mut Handle, slot: usize, buffer: *mut u8, capacity: usize, told: *mut usize) -> u32;
         pub fn tkhost_turns(host: *mut Handle, turns: *mut super::Turn, capacity: usize, told: *mut usize) -> u32;
+        pub fn tkhost_asker(host: *mut Handle, slot: *mut usize) -> u32;
         pub fn tkhost_text(number: u32, buffer: *mut u8, capacity: usize, told: *mut usize) -> u32;
     }
 }
@@ -243,6 +244,14 @@ impl Host {
     pub fn turns(&mut self) -> Result<Vec<Turn>, Fault> {
         told(64, |buffer: &mut [Turn], length| unsafe { sys::tkhost_turns(&mut self.handle, buffer.as_mut_ptr(), buffer.len(), length) })
             .map_err(|(number, _)| Fault { number, line: None })
+    }
+
+    /// The slot of the application that asked for the memory that was refused, once the host is broken.
+    pub fn asker(&mut self) -> Option<usize> {
+        let mut slot = 0;
+        // SAFETY: the handle is this host's, and the slot is ours.
+        let answer = unsafe { sys::tkhost_asker(&mut self.handle, &mut slot) };
+        (answer == 0).then_some(slot)
     }
 }
 

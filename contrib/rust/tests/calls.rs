@@ -16,6 +16,7 @@ fn a_gauge_beside_a_runaway() -> Result<(), Fault> {
     host.advance(10)?;
     assert_eq!(String::from_utf8_lossy(&host.section(1)?), GAUGE);
     assert!(host.turns()?.iter().all(|turn| turn.slot == 1));
+    assert_eq!(host.asker(), None);
     assert_eq!(host.section(2).unwrap_err().number, 37);
     Ok(())
 }

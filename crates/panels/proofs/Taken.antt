@@ -1,5 +1,5 @@
 -- What the host takes, line by line and entry by entry, up to what it refuses.
-use Rattle.std.proofs.Common.{◌≡◌, ℕ, suc, ◌+◌, ◌<◌, inl, inr, List, [], ◌∷◌, ◌++◌, length, get_or, take, drop, refl, ap, sym, subst, ◌∙◌, arith}
+use Rattle.std.proofs.Common.{◌≡◌, ℕ, suc, ◌+◌, ◌<◌, inl, inr, Option, None, Some, List, [], ◌∷◌, ◌++◌, length, get_or, take, drop, refl, ap, sym, subst, ◌∙◌, arith}
 use Rattle.std.proofs.lemmas.List.{length-take-le, take-append-drop, take_more}
 use Rattle.std.proofs.Math.Seq.{drop-cons}
 use Rattle.tk_route.specs.Refusals.{IsFirst, NoneApplies}
@@ -12,7 +12,7 @@ use Rattle.tk_host.specs.Held.{HostState, held_after}
 use Rattle.tk_host.specs.Refusals.{IsRefusal, RefusesLine, RefusesMoment, line_faults, moment_faults}
 use Rattle.panels.specs.declared.bench.Entry.{Entry}
 use Rattle.panels.specs.declared.playing.BenchFault.{BenchFault}
-use Rattle.panels.specs.declared.playing.BenchFault.TheVariants.{NoSession, Refused, NoMemory}
+use Rattle.panels.specs.declared.playing.BenchFault.TheVariants.{NoSession, Refused, Unserved, NoMemory}
 use Rattle.panels.specs.Course.{Way, entered, handed, handed_all, went}
 use Rattle.panels.specs.Refusals.{OfEntry, RefusedAmong, RefusesAt, RefusesEntry, RefusesLines, TakesAll, TakesEntry, TakesLines, fault_in}
 
@@ -27,13 +27,15 @@ front_at : {A : Type 0} (list : List A) (i : ℕ) (one : A) → i < length list 
 front_at list i one h is = take_more list i one h ∙ ap (λ a. take i list ++ a ∷ []) (sym is)
 
 -- what a call of the host is refused with, as a fault of an entry
-pub of_fault : (Applies : LineFault → Type 0) (faults : List LineFault) (entry : ℕ) (found : HostFault) → IsRefusal Applies faults found → OfEntry (IsFirst Applies faults) entry (fault_in entry found)
-of_fault Applies faults entry (hosts.Refused fault) is = (refl, is)
-of_fault Applies faults entry hosts.NoMemory is = tt
+pub of_fault : (Applies : LineFault → Type 0) (faults : List LineFault) (entry : ℕ) (asker : Option ℕ) (found : HostFault) → IsRefusal Applies faults found → OfEntry (IsFirst Applies faults) entry (fault_in entry asker found)
+of_fault Applies faults entry asker (hosts.Refused fault) is = (refl, is)
+of_fault Applies faults entry None hosts.NoMemory is = tt
+of_fault Applies faults entry (Some slot) hosts.NoMemory is = tt
 
 pub of_entry-map : (One Other : LineFault → Type 0) (entry : ℕ) (found : BenchFault) → ((fault : LineFault) → One fault → Other fault) → OfEntry One entry found → OfEntry Other entry found
 of_entry-map One Other entry (NoSession why) from is = is
 of_entry-map One Other entry (Refused number fault) from is = (is.0, from fault is.1)
+of_entry-map One Other entry (Unserved slot) from is = tt
 of_entry-map One Other entry NoMemory from is = tt
 
 pub of_memory : (Refuses : LineFault → Type 0) (entry : ℕ) (found : BenchFault) → found ≡ NoMemory → OfEntry Refuses entry found
@@ -119,4 +121,5 @@ module _ {M : Type 0} (answer : M → Meaning) where
       subst (λ (all : List Entry). RefusesAt answer 0 all way at fault) (sym (whole_at entries i entry h is))
       (refuses_at-append 0 (take i entries) (entry ∷ drop (i + 1) entries) way at fault front
       (inl (of.0 ∙ count_at entries i h, of.1)))
+  refused-at entries i entry way h is front (Unserved slot) of = tt
   refused-at entries i entry way h is front NoMemory of = tt

@@ -1,5 +1,5 @@
 -- Meaning. When a bench isn't played, and in which entry. Memory may be refused anywhere.
-use Rattle.std.specs.Prelude.{◌≡◌, ℕ, ◌+◌, ◌⊎◌, List, [], ◌∷◌, Result, Ok, Err}
+use Rattle.std.specs.Prelude.{◌≡◌, ℕ, ◌+◌, ◌⊎◌, List, [], ◌∷◌, Option, None, Some, Result, Ok, Err}
 use Rattle.tk_route.specs.Refusals.{IsFirst, NoneApplies}
 use Rattle.tk_route.specs.declared.fault.HostFault.{HostFault}
 use Rattle.tk_route.specs.declared.fault.HostFault.TheVariants as hosts
@@ -18,10 +18,23 @@ use Rattle.panels.specs.declared.bench.Bench.{Bench}
 use Rattle.panels.specs.declared.bench.Entry.{Entry}
 use Rattle.panels.specs.declared.pane.Miss.{Miss}
 use Rattle.panels.specs.declared.playing.BenchFault.{BenchFault}
-use Rattle.panels.specs.declared.playing.BenchFault.TheVariants.{NoSession, Refused, NoMemory}
+use Rattle.panels.specs.declared.playing.BenchFault.TheVariants.{NoSession, Refused, Unserved, NoMemory}
 use Rattle.panels.specs.Course.{Way, advanced, begun, course_of, entered, handed, section_at, slot_of}
 use Rattle.panels.specs.Gestures.{outcome_of}
 use Rattle.panels.specs.Played.{plan_of}
+
+-- ---- memory
+
+-- memory was refused: to this panel, or it isn't known to which
+abbrev pub unserved : Option ℕ → BenchFault
+unserved None = NoMemory
+unserved (Some slot) = Unserved slot
+
+abbrev pub IsWantOfMemory : BenchFault → Type 0
+IsWantOfMemory (NoSession why) = ⊥
+IsWantOfMemory (Refused entry fault) = ⊥
+IsWantOfMemory (Unserved slot) = Unit {0}
+IsWantOfMemory NoMemory = Unit {0}
 
 -- ---- sessions
 
@@ -39,19 +52,21 @@ IsUnsaid plan writing.NoMemory = Unit {0}
 abbrev pub UnsaidBy : Plan → BenchFault → Type 0
 UnsaidBy plan (NoSession why) = IsUnsaid plan why
 UnsaidBy plan (Refused entry fault) = ⊥
+UnsaidBy plan (Unserved slot) = Unit {0}
 UnsaidBy plan NoMemory = Unit {0}
 
 -- ---- entries
 
--- what the host refuses in an entry
-abbrev pub fault_in : ℕ → HostFault → BenchFault
-fault_in entry (hosts.Refused fault) = Refused entry fault
-fault_in entry hosts.NoMemory = NoMemory
+-- what the host refuses in an entry, and which panel asked for memory, where it is want of memory
+abbrev pub fault_in : ℕ → Option ℕ → HostFault → BenchFault
+fault_in entry asker (hosts.Refused fault) = Refused entry fault
+fault_in entry asker hosts.NoMemory = unserved asker
 
 -- nothing is refused but this of an entry
 abbrev pub OfEntry : (LineFault → Type 0) → ℕ → BenchFault → Type 0
 OfEntry Refuses entry (NoSession why) = ⊥
 OfEntry Refuses entry (Refused number fault) = (number ≡ entry) × Refuses fault
+OfEntry Refuses entry (Unserved slot) = Unit {0}
 OfEntry Refuses entry NoMemory = Unit {0}
 
 module _ {M : Type 0} (answer : M → Meaning) where
@@ -110,6 +125,7 @@ module _ {M : Type 0} (answer : M → Meaning) where
   abbrev pub RefusedAmong : ℕ → List Entry → Way M → BenchFault → Type 0
   RefusedAmong number entries way (NoSession why) = ⊥
   RefusedAmong number entries way (Refused at fault) = RefusesAt number entries way at fault
+  RefusedAmong number entries way (Unserved slot) = Unit {0}
   RefusedAmong number entries way NoMemory = Unit {0}
 
   -- Why a bench isn't played, in this order: its panels are no session; the first entry that the host refuses; its panels and the lines that its gestures
@@ -119,4 +135,5 @@ module _ {M : Type 0} (answer : M → Meaning) where
       IsUnsaid (plan_of bench []) why
       ⊎ IsSayable (plan_of bench []) × TakesAll 0 bench.entries.items (begun bench.panels.items lists) × IsUnsaid (plan_of bench (course_of answer bench lists).events) why
   IsRefused bench lists (Refused entry fault) = IsSayable (plan_of bench []) × RefusesAt 0 bench.entries.items (begun bench.panels.items lists) entry fault
+  IsRefused bench lists (Unserved slot) = Unit {0}
   IsRefused bench lists NoMemory = Unit {0}

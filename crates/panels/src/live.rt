@@ -84,6 +84,13 @@ impl<M: AliasService> Live<M> {
     {
         self.host.turns()
     }
+
+    /// The slot of the panel that asked for the memory that was refused, as `Host::asker` tells it. It takes no memory.
+    pub fn asker(&self) -> Option<usize>
+        ensures { result ≡ self.now.asker }
+    {
+        self.host.asker()
+    }
 }
 
 /// The panels of a session, whose scripts have run, each at most `slice` steps at a time, with the closures that are made for its aliases.

@@ -16,7 +16,7 @@ ghost use Rattle.panels.specs.Course.{Ends, IsAt, Way, acted, advanced, begun, c
 ghost use Rattle.panels.specs.Gestures.{outcome_of};
 ghost use Rattle.panels.specs.Looks.{told};
 ghost use Rattle.panels.specs.Played.{plan_of};
-ghost use Rattle.panels.specs.Refusals.{IsRefused, IsSayable, OfEntry, RefusedAmong, RefusesAct, RefusesEntry, RefusesLines, TakesAct, TakesAll, TakesEntry, TakesLines, UnsaidBy, fault_in};
+ghost use Rattle.panels.specs.Refusals.{IsRefused, IsSayable, IsWantOfMemory, OfEntry, RefusedAmong, RefusesAct, RefusesEntry, RefusesLines, TakesAct, TakesAll, TakesEntry, TakesLines, UnsaidBy, fault_in, unserved};
 ghost use Rattle.panels.specs.Verdict.{sections_in};
 
 use crate::bench::{Act, Answer, Bench, Entry, Gesture};
@@ -33,7 +33,7 @@ use tk_host::{AliasCode, AliasService, Aliases, Host, HostFault};
 use tk_session::{
     AppBlock, EventLine, HostLine, LineFault, ServiceKind, Session, WritingFault, write_session,
 };
-use tkhost::{PlayFault, filled, services_of};
+use tkhost::{PlayFault, Unplayed, filled, play_or_tell, services_of};
 
 /// Why a bench isn't played to its end.
 #[derive(Drop)]
@@ -42,6 +42,8 @@ pub enum BenchFault {
     NoSession(WritingFault),
     /// The host refuses what this entry does, from 0 on.
     Refused { entry: usize, fault: LineFault },
+    /// Memory was refused to the panel in a slot, while panels ran.
+    Unserved { slot: usize },
     /// Memory was refused.
     NoMemory,
 }
@@ -97,12 +99,23 @@ pub struct Played {
     pub endings: Vec<Ending>,
 }
 
-/// What the host refuses in an entry.
-fn refused(entry: usize, fault: HostFault) -> BenchFault
-    ensures { result ≡ fault_in entry fault }
+/// Memory was refused, to the panel in this slot where it is known.
+fn unserved(asker: Option<usize>) -> BenchFault
+    ensures who { result ≡ unserved asker }
+    ensures memory { IsWantOfMemory result }
+{
+    match asker {
+        Some(slot) => BenchFault::Unserved { slot },
+        None => BenchFault::NoMemory,
+    }
+}
+
+/// What the host refuses in an entry. `asker` is the panel that asked for memory, where it is want of memory.
+fn refused(entry: usize, asker: Option<usize>, fault: HostFault) -> BenchFault
+    ensures { result ≡ fault_in entry asker fault }
 {
     match fault {
-        HostFault::NoMemory => BenchFault::NoMemory,
+        HostFault::NoMemory => unserved(asker),
         HostFault::Refused(fault) => BenchFault::Refused { entry, fault },
     }
 }
@@ -137,7 +150,7 @@ fn hand<M: AliasService>(
     ensures refused { IfErr result (OfEntry (IsFirst (RefusesLine host.old.held event.moment event.line) line_faults) entry) }
 {
     if let Err(fault) = host.line(event.moment, event.line) {
-        return Err(refused(entry, fault));
+        return Err(refused(entry, host.asker(), fault));
     }
     course.screen.take(event.line);
     Ok(course.events.push(event)?)
@@ -221,7 +234,7 @@ fn enter<M: AliasService>(
     ensures refused { (way : Way M) → IsAt M.answer way host.old.held course.old → IfErr result (OfEntry (RefusesEntry M.answer entry.now way) number) }
 {
     if let Err(fault) = host.advance_to(entry.moment) {
-        return Err(refused(number, fault));
+        return Err(refused(number, host.asker(), fault));
     }
     match &entry.act {
         Act::Do(gesture) => perform(alloc, host, course, number, entry.moment, gesture),
@@ -271,24 +284,24 @@ pub(crate) fn started<M: AliasService>(
     requires serve { Serve session.now.apps aliases.items }
     ensures begun { IfOk result (λ host. host.held.phase ≢ Phase.Adding) }
     ensures host { IfOk result (λ host. host.held ≡ held_after M.answer (adding session.now.apps aliases.items ++ Start ∷ [])) }
-    ensures memory { IfErr result (λ fault. fault ≡ BenchFault.NoMemory) }
+    ensures memory { IfErr result IsWantOfMemory }
 {
     let mut host = filled(alloc, session, aliases, slice)?;
     match host.start() {
         Ok(()) => Ok(host),
         // before it has started a host refuses its start for nothing else
-        Err(_) => Err(BenchFault::NoMemory),
+        Err(_) => Err(unserved(host.asker())),
     }
 }
 
 /// Comes to the end of a bench. An end before the last line is refused where the session is written.
 fn come_to_end<M: AliasService>(host: &mut Host<M>, end: u64) -> Result<(), BenchFault>
     requires begun { host.old.held.phase ≢ Phase.Adding }
-    ensures memory { IfErr result (λ fault. fault ≡ BenchFault.NoMemory) }
+    ensures memory { IfErr result IsWantOfMemory }
 {
     match host.advance_to(end) {
         Ok(()) | Err(HostFault::Refused(_)) => Ok(()),
-        Err(HostFault::NoMemory) => Err(BenchFault::NoMemory),
+        Err(HostFault::NoMemory) => Err(unserved(host.asker())),
     }
 }
 
@@ -348,12 +361,16 @@ fn output_of<F: AliasCode, K: Fn(ServiceKind, Text) -> F>(
     requires services { MakesServices (K.post make.now) F.may_call F.may_reply }
     requires slice { 1 ≤ slice }
     ensures output { IfOk result (λ output. output.items ≡ program_sections session.now) }
-    ensures memory { IfErr result (λ fault. fault ≡ BenchFault.NoMemory) }
+    ensures memory { IfErr result IsWantOfMemory }
 {
     let aliases = services_of(alloc, session, make)?;
     let mut output = Vec::new(alloc);
-    tkhost::play(alloc, session, aliases, slice, &mut output)?;
-    Ok(output)
+    match play_or_tell(alloc, session, aliases, slice, &mut output) {
+        Ok(()) => Ok(output),
+        // a text in memory takes all that is written to it
+        Err(Unplayed::Write) => Err(BenchFault::NoMemory),
+        Err(Unplayed::NoMemory(asker)) => Err(unserved(asker)),
+    }
 }
 
 /// The section of each panel of a bench at its end, where its gestures became these lines. Refused are, in this order: panels that can't stand side by side

@@ -1,8 +1,8 @@
 //! Sessions that come line by line.
 ghost use Rattle.tkhost.specs.Play.{MakesServices};
 
-use panels::{Live, live_with};
-use panels_report::{Blocks, Reply, Taken, answered};
+use panels::{BenchFault, Live, live_with};
+use panels_report::{Blocks, Reply, Taken, answered, unserved};
 use panels_text::{Failure, as_text};
 use std::io::Input;
 use tcl_text::Text;
@@ -44,6 +44,14 @@ fn tell<R: Print + AllocGlobal>(rt: &R, reply: &Reply) -> Result<bool, Failure> 
     }
 }
 
+/// Memory was refused, to the panel in this slot where it is known.
+fn without_memory(asker: Option<usize>, panels: &[AppBlock]) -> Failure {
+    match asker {
+        Some(slot) => unserved(panels, slot),
+        None => Failure::NoMemory,
+    }
+}
+
 /// Answers the lines that come once the scripts of all panels have run.
 fn follow<R: Input + Print + AllocGlobal, M: AliasService>(
     rt: &R,
@@ -52,7 +60,9 @@ fn follow<R: Input + Print + AllocGlobal, M: AliasService>(
 ) -> Result<(), Failure> {
     let alloc = rt.alloc();
     for line in rt.lines(alloc) {
-        let reply = answered(alloc, &mut live, panels, line?.as_str())?;
+        let Ok(reply) = answered(alloc, &mut live, panels, line?.as_str()) else {
+            return Err(without_memory(live.asker(), panels));
+        };
         if !tell(rt, &reply)? {
             return Ok(());
         }
@@ -75,6 +85,7 @@ fn play_with<R: Input + Print + AllocGlobal, F: AliasCode, K: Fn(ServiceKind, Te
             close(rt, None)?;
             follow(rt, live, session.apps())
         }
+        Err(BenchFault::Unserved { slot }) => Err(unserved(session.apps(), slot)),
         Err(_) => Err(Failure::NoMemory),
     }
 }

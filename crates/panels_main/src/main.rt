@@ -56,9 +56,14 @@ fn main(rt: HostRuntime) -> ExitCode {
             let _ = rt.eprintln(text.as_str());
             2
         }
+        Err(Failure::Unserved(name)) => {
+            let _ = rt.eprint("panels: out of memory\npanels: memory was refused to ");
+            let _ = rt.eprintln(name.as_str());
+            4
+        }
         Err(Failure::NoMemory) => {
             let _ = rt.eprintln("panels: out of memory");
-            2
+            4
         }
         Err(Failure::Stream) => {
             let _ = rt.eprintln("panels: read or write fault");

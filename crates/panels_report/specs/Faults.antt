@@ -2,14 +2,15 @@
 use Rattle.std.specs.Prelude.{ℕ, List, codes, Option, None, Some, slice_get, unwrap_or}
 use Rattle.tk_route.specs.declared.fault.LineFault.{LineFault}
 use Rattle.tk_route.specs.declared.fault.LineFault.TheVariants as lines
+use Rattle.tk_session.specs.declared.session.AppBlock.{AppBlock}
 use Rattle.tk_session.specs.declared.writing.WritingFault.{WritingFault}
 use Rattle.tk_session.specs.declared.writing.WritingFault.TheVariants as writing
 use Rattle.panels.specs.declared.playing.BenchFault.{BenchFault}
-use Rattle.panels.specs.declared.playing.BenchFault.TheVariants.{NoSession, Refused, NoMemory}
+use Rattle.panels.specs.declared.playing.BenchFault.TheVariants.{NoSession, Refused, Unserved, NoMemory}
 use Rattle.panels_bench.specs.Slots.{slot_at}
 use Rattle.panels_bench.specs.declared.reading.Read.{Read}
 use Rattle.panels_bench.specs.declared.sides.Side.{Side}
-use Rattle.panels_text.specs.Places.{IsFault, IsNoMemory, fault_text}
+use Rattle.panels_text.specs.Places.{IsFault, IsNoMemory, IsUnserved, fault_text}
 use Rattle.panels_text.specs.declared.failure.Failure.{Failure}
 
 abbrev pub IsMemoryOf : WritingFault → Type 0
@@ -17,10 +18,11 @@ IsMemoryOf (writing.Refused fault line) = ⊥
 IsMemoryOf writing.Unlike = ⊥
 IsMemoryOf writing.NoMemory = Unit {0}
 
--- memory was refused
+-- memory was refused, and it isn't known to which panel
 abbrev pub IsMemory : BenchFault → Type 0
 IsMemory (NoSession why) = IsMemoryOf why
 IsMemory (Refused entry fault) = ⊥
+IsMemory (Unserved slot) = ⊥
 IsMemory NoMemory = Unit {0}
 
 -- why panels are no session, in words
@@ -50,6 +52,14 @@ panel_line read line = side_line (slice_get read.sides.items (slot_at read.bench
 abbrev pub entry_line : Read → ℕ → ℕ
 entry_line read entry = unwrap_or (slice_get read.lines.items entry) 0
 
+-- memory was refused to the panel in a slot: its name is told
+abbrev pub IsUnservedBy : Option AppBlock → Failure → Type 0
+IsUnservedBy None failure = IsNoMemory failure
+IsUnservedBy (Some panel) failure = IsUnserved panel.name failure
+
+abbrev pub IsUnservedIn : List AppBlock → ℕ → Failure → Type 0
+IsUnservedIn panels slot failure = IsUnservedBy (slice_get panels slot) failure
+
 -- what is told of a session that isn't written: of its first faulty line the panel's, and what is wrong there
 abbrev pub IsToldOf : List ℕ → Read → WritingFault → Failure → Type 0
 IsToldOf file read (writing.Refused fault line) = IsFault (fault_text file (panel_line read line) (words_of fault))
@@ -60,4 +70,5 @@ IsToldOf file read writing.NoMemory = IsNoMemory
 abbrev pub IsTold : List ℕ → Read → BenchFault → Failure → Type 0
 IsTold file read (NoSession why) = IsToldOf file read why
 IsTold file read (Refused entry fault) = IsFault (fault_text file (entry_line read entry) (words_of fault))
+IsTold file read (Unserved slot) = IsUnservedIn read.bench.panels.items slot
 IsTold file read NoMemory = IsNoMemory

@@ -21,4 +21,4 @@ pub use expecting::is_as_expected;
 pub use idle::push_idle;
 pub use isolating::disturbances;
 pub use linting::{Wrong, linted, served};
-pub use playing::{not_played, play_bench};
+pub use playing::{not_played, play_bench, unserved};

@@ -7,14 +7,14 @@ ghost use Rattle.tkhost.specs.Play.{services_in};
 ghost use Rattle.tkhost.specs.Sections.{program_sections};
 ghost use Rattle.panels.specs.Played.{plan_of};
 ghost use Rattle.panels.specs.Refusals.{IsRefused};
-ghost use Rattle.panels_report.specs.Faults.{IsMemory, IsTold, entry_line, panel_line, words_of};
+ghost use Rattle.panels_report.specs.Faults.{IsMemory, IsTold, IsUnservedIn, entry_line, panel_line, words_of};
 
 use panels::{Bench, BenchFault, Played, play};
 use panels_bench::{Read, slot_at};
 use panels_text::{Failure, fault};
 use std::alloc::Global;
 use tcl_text::Text;
-use tk_session::{LineFault, ServiceKind, WritingFault};
+use tk_session::{AppBlock, LineFault, ServiceKind, WritingFault};
 
 /// Why panels are no session, in words.
 fn words_of(fault: LineFault) -> &'static str
@@ -56,6 +56,19 @@ fn entry_line(read: &Read, entry: usize) -> usize
     }
 }
 
+/// Memory was refused to the panel in a slot, which is named where there is one, and memory for its name.
+pub fn unserved(panels: &[AppBlock], slot: usize) -> Failure
+    ensures { IsUnservedIn panels.now slot result }
+{
+    let Some(panel) = panels.get(slot) else {
+        return Failure::NoMemory;
+    };
+    match panel.name.copy() {
+        Ok(name) => Failure::Unserved(name),
+        Err(_) => Failure::NoMemory,
+    }
+}
+
 /// What is wrong with a bench that isn't played, with its file and its line.
 pub fn not_played(alloc: Global, file: &str, read: &Read, why: BenchFault) -> Failure
     ensures memory { IsMemory why → result ≡ Failure.NoMemory }
@@ -63,6 +76,7 @@ pub fn not_played(alloc: Global, file: &str, read: &Read, why: BenchFault) -> Fa
 {
     match why {
         BenchFault::NoMemory | BenchFault::NoSession(WritingFault::NoMemory) => Failure::NoMemory,
+        BenchFault::Unserved { slot } => unserved(read.bench.panels.as_slice(), slot),
         BenchFault::NoSession(WritingFault::Unlike) => {
             let words = "the configuration of an alias has a line feed, which a session hasn't";
             fault(alloc, file, 0, words)

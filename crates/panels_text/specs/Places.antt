@@ -6,7 +6,7 @@ use Rattle.std.specs.Str.{bytes_eq, trim}
 use Rattle.std.specs.String.{string_bytes}
 use Rattle.panels_text.specs.Texts.{before, behind, lines_of}
 use Rattle.panels_text.specs.declared.failure.Failure.{Failure}
-use Rattle.panels_text.specs.declared.failure.Failure.TheVariants.{Said, NoMemory, Stream}
+use Rattle.panels_text.specs.declared.failure.Failure.TheVariants.{Said, Unserved, NoMemory, Stream}
 
 -- how many lines end in a text
 abbrev pub count_breaks : List ℕ → ℕ
@@ -32,12 +32,20 @@ fault_text file line words = if line == 0 then file ++ codes ": " ++ words else 
 -- the text is said, or there is no memory for it
 abbrev pub IsFault : List ℕ → Failure → Type 0
 IsFault text (Said said) = string_bytes said ≡ text
+IsFault text (Unserved name) = ⊥
 IsFault text NoMemory = Unit {0}
 IsFault text Stream = ⊥
 
 abbrev pub IsNoMemory : Failure → Type 0
 IsNoMemory NoMemory = Unit {0}
 IsNoMemory _ = ⊥
+
+-- memory was refused to the panel of this name, or none is left for the name
+abbrev pub IsUnserved : List ℕ → Failure → Type 0
+IsUnserved name (Said said) = ⊥
+IsUnserved name (Unserved told) = told ≡ name
+IsUnserved name NoMemory = Unit {0}
+IsUnserved name Stream = ⊥
 
 -- a line of TOML with which a table begins
 abbrev pub begins_table : List ℕ → Bool

@@ -4,12 +4,15 @@ ghost use Rattle.panels_text.specs.Places.{IsFault, fault_text};
 
 use std::alloc::{AllocError, AllocFailed, Global};
 use std::io;
+use tcl_text::Text;
 
 /// Why a command isn't done.
 #[derive(Drop)]
 pub enum Failure {
     /// What is wrong, in words.
     Said(String),
+    /// Memory was refused to the panel of this name.
+    Unserved(Text),
     /// Memory was refused.
     NoMemory,
     /// A stream failed.

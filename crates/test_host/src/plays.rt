@@ -24,12 +24,13 @@ fn stored<R: Files + AllocGlobal>(rt: &R, name: &str, ending: &str) -> Result<Op
 fn told(alloc: Global, session: &[u8]) -> Result<(Vec<u8>, Vec<u8>)> {
     let mut reader = session;
     let mut sections = Vec::new(alloc);
-    let outcome = run(
+    let ending = run(
         alloc,
         &mut reader,
         &mut sections,
         |kind: ServiceKind, config: Text| { move |args: &[Text]| kind.reply(alloc, &config, args) },
     );
+    let outcome = ending.outcome;
     let mut fault = Vec::new(alloc);
     if !matches!(outcome, Outcome::Done) {
         let status = format!(in alloc; "{}\n", outcome.status())?;

@@ -149,7 +149,7 @@ impl Streams {
     fn run(&self, alloc: Global, from: Flow, to: Flow) -> Result<String> {
         let mut reader = Stream::new(alloc, from, self.text.as_bytes());
         let mut writer = Stream::new(alloc, to, &[]);
-        let outcome = run(
+        let ending = run(
             alloc,
             &mut reader,
             &mut writer,
@@ -157,7 +157,7 @@ impl Streams {
                 move |args: &[Text]| kind.reply(alloc, &config, args)
             },
         );
-        let told = outcome_told(alloc, outcome)?;
+        let told = outcome_told(alloc, ending.outcome)?;
         let taken = str::from_utf8(writer.taken.as_slice())?;
         Ok(format!(in alloc; "{}|{taken}", told.as_str())?)
     }

@@ -1,6 +1,6 @@
 -- Steps that are left, and those that are told of turns.
 use Rattle.std.proofs.Common.{◌≡◌, ◌≢◌, ℕ, zero, suc, ◌+◌, ◌-◌, ◌≤◌, ◌++◌, inl, inr, Bool, true, false, List, [], ◌∷◌, Option, Some, None, append-nil, refl, sym, ap, ◌∙◌, subst, arith}
-use Rattle.std.specs.Prelude.{Result, Ok, Err, IfSome, OnErr, OnOk, nat_eq, option_map, slice_get, slice_set}
+use Rattle.std.specs.Prelude.{IfSome, nat_eq, option_map, slice_get, slice_set}
 use Rattle.std.specs.Option.{option_map_or}
 use Rattle.std.proofs.lemmas.Bool.{eqb-false, eqb-true}
 use Rattle.tk_base.specs.declared.budget.Budget.{Budget}
@@ -85,16 +85,11 @@ module _ {M : Type 0} where
       one_counts slot taken only.before only.after old new only.was only.changed (omega (arith, only.fewer)) only.budget only.told
 
   -- settling begins
-  begins_count : (slot : ℕ) (old new : Applications M) → BeginsIn slot old new → CountsAll old new
+  pub begins_count : (slot : ℕ) (old new : Applications M) → BeginsIn slot old new → CountsAll old new
   begins_count slot old new begins =
       let parts : new.parts ≡ slice_set old.parts slot (settling_begun begins.before) = ap (λ (h : Applications M). h.parts) begins.changed in
       let turns : new.turns ≡ old.turns ++ one_turn slot 0 = ap (λ (h : Applications M). h.turns) begins.changed ∙ sym (append-nil old.turns) in
       one_counts slot 0 begins.before (settling_begun begins.before) old new begins.was parts (omega arith) refl turns
-
-  pub begins_counted : {T E : Type 0} (r : Result T E) (slot : ℕ) (old new : Applications M) → OnOk r (BeginsIn slot old new) → OnErr r (new ≡ old) → CountsAll old new
-  begins_counted (Ok x) slot old new begins stays = begins_count slot old new begins
-  begins_counted (Err e) slot old new begins stays =
-      counts_same old new (ap (λ (h : Applications M). h.turns) stays) (ap (λ (h : Applications M). h.parts) stays)
 
   -- what a call tells that began with no turns
   pub tells_all : (shared cleared new : Applications M) (old : List (Part M)) → cleared ≡ record shared { turns = [] } → shared.parts ≡ old → CountsAll cleared new

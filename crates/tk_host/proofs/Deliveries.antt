@@ -209,6 +209,11 @@ module _ {M : Type 0} where
     pub given_nobody : (n : ℕ) (parts : List (Part M)) → n + length parts ≤ delivery.slot → given_from n delivery parts ≡ parts
     given_nobody n parts far = given_apart n parts (λ slot from below same. omega (arith, same, below, far))
 
+    -- as many as before
+    pub given_length : (n : ℕ) (parts : List (Part M)) → length (given_from n delivery parts) ≡ length parts
+    given_length n [] = refl
+    given_length n (p ∷ ps) = ap suc (given_length (n + 1) ps)
+
     given_at : (n i : ℕ) (parts : List (Part M)) (part : Part M) → n + i ≡ delivery.slot → slice_get parts i ≡ Some part → given_from n delivery parts ≡ set parts i (given_event delivery.event part)
     given_at n i [] part e is = cc
     given_at n zero (p ∷ ps) part e is =
@@ -246,6 +251,10 @@ module _ {M : Type 0} where
         ∙ ap (λ (h : Applications M). record h { parts = set h.parts i (settling_begun begins.before) }) delivers.changed
         ∙ ap (λ (p : Part M). record old { parts = set (set old.parts i got) i (settling_begun p) }) same
         ∙ ap (λ (ps : List (Part M)). record old { parts = ps }) (set_set old.parts i got (given_event delivery.event delivers.before) ∙ sym (given_at 0 i old.parts delivers.before (omega arith) delivers.was))
+
+  pub after_length : (answer : M → Meaning) (n : ℕ) (given : List Delivery) (apps : List (Application M)) → length (after_given answer n given apps) ≡ length apps
+  after_length answer n given [] = refl
+  after_length answer n given (application ∷ apps) = ap suc (after_length answer (n + 1) given apps)
 
   -- two events, one after the other
   pub given_twice : (first second : Delivery) (old mid new : Applications M) → mid ≡ record old { parts = given_from 0 first old.parts } → new ≡ record mid { parts = given_from 0 second mid.parts }

@@ -1,5 +1,5 @@
 -- What a host knows of its parts, after each call.
-use Rattle.std.proofs.Common.{◌≡◌, ℕ, ◌+◌, ◌≤◌, Bool, true, false, cond, List, [], ◌∷◌, ◌++◌, map, refl, sym, ap, ◌∙◌, subst, arith}
+use Rattle.std.proofs.Common.{◌≡◌, ℕ, ◌+◌, ◌≤◌, Bool, true, false, Option, None, cond, List, [], ◌∷◌, ◌++◌, map, refl, sym, ap, ◌∙◌, subst, arith}
 use Rattle.std.specs.Prelude.{filter, nat_eq, ◌==◌}
 use Rattle.tk_base.specs.declared.rect.Rect.{Rect}
 use Rattle.tk_base.specs.declared.local_event.LocalEvent.{LocalEvent}
@@ -21,7 +21,7 @@ use Rattle.tk_app.specs.Turns.{Applications}
 use Rattle.tk_host.specs.declared.phase.Phase.{Phase}
 use Rattle.tk_host.specs.declared.phase.Phase.TheVariants.{Adding, Reached, Finished, Lost}
 use Rattle.tk_host.specs.AloneByJob.{passed}
-use Rattle.tk_host.specs.Held.{Hosted, after_line, after_start, at_rest, with_passed, gone_to, known_by, with_app}
+use Rattle.tk_host.specs.Held.{Hosted, after_line, asker_in, after_start, at_rest, with_passed, gone_to, known_by, with_app}
 use Rattle.tk_host.specs.Spec.{Given, rect_of}
 use Rattle.tk_host.specs.Ready.{AllRest, IsAt, IsReady, IsRouted}
 use Rattle.tk_host.specs.Slots.{AreAt}
@@ -40,6 +40,16 @@ known_on Lost moment rects known at = refl
 
 pub known_reached : (phase : Phase) (last : ℕ) (rects : List Rect) (known : Values) → phase ≡ Reached last → known_by phase rects known ≡ known
 known_reached phase last rects known is = ap (λ p. known_by p rects known) is
+
+-- nobody was refused memory in a phase that is reached
+asker_on : (phase : Phase) (moment : ℕ) (asker : Option ℕ) → IsAt moment phase → asker_in phase asker ≡ None
+asker_on Adding moment asker at = absurd at
+asker_on (Reached reached) moment asker at = refl
+asker_on (Finished reached) moment asker at = refl
+asker_on Lost moment asker at = absurd at
+
+asker_reached : (phase : Phase) (last : ℕ) (asker : Option ℕ) → phase ≡ Reached last → asker_in phase asker ≡ None
+asker_reached phase last asker is = ap (λ p. asker_in p asker) is
 
 module _ {M : Type 0} where
   pub routed_new : (known : Values) → IsRouted {M = M} Adding [] known []
@@ -160,58 +170,60 @@ module _ {M : Type 0} (answer : M → Meaning) where
   -- ── what calls leave ──
 
   -- what a host is seen as, by its fields
-  abbrev pub seen : Phase → List Rect → Values → ℕ → Applications M → Hosted M
-  seen phase rects known slice shared =
-      record { held = record { phase = phase; known = known_by phase rects known; parts = shared.parts }; slice = slice; turns = shared.turns }
+  abbrev pub seen : Phase → List Rect → Values → Option ℕ → ℕ → Applications M → Hosted M
+  seen phase rects known asker slice shared =
+      record { held = record { phase = phase; known = known_by phase rects known; parts = shared.parts }; slice = slice; turns = shared.turns; asker = asker_in phase asker }
 
-  pub added_is : (phase : Phase) (rects more : List Rect) (known : Values) (slice : ℕ) (shared after : Applications M) (old : Hosted M) (app : Given M) → phase ≡ Adding
-      → seen phase rects known slice shared ≡ old → more ≡ rects ++ rect_of app ∷ [] → after ≡ record shared { parts = shared.parts ++ added app.spec ∷ [] }
-      → seen phase more known slice after ≡ with_app app old
-  added_is phase rects more known slice shared after old app adding is one_more now =
-      ap (λ p. seen p more known slice after) adding
-      ∙ ap (λ rs. seen Adding rs known slice after) one_more ∙ ap (seen Adding (rects ++ rect_of app ∷ []) known slice) now
-      ∙ ap (λ p. with_app app (seen p rects known slice shared)) (sym adding) ∙ ap (with_app app) is
+  pub added_is : (phase : Phase) (rects more : List Rect) (known : Values) (asker : Option ℕ) (slice : ℕ) (shared after : Applications M) (old : Hosted M) (app : Given M) → phase ≡ Adding
+      → seen phase rects known asker slice shared ≡ old → more ≡ rects ++ rect_of app ∷ [] → after ≡ record shared { parts = shared.parts ++ added app.spec ∷ [] }
+      → seen phase more known asker slice after ≡ with_app app old
+  added_is phase rects more known asker slice shared after old app adding is one_more now =
+      ap (λ p. seen p more known asker slice after) adding
+      ∙ ap (λ rs. seen Adding rs known asker slice after) one_more ∙ ap (seen Adding (rects ++ rect_of app ∷ []) known asker slice) now
+      ∙ ap (λ p. with_app app (seen p rects known asker slice shared)) (sym adding) ∙ ap (with_app app) is
 
-  pub started_is : (phase : Phase) (rects : List Rect) (known known' : Values) (slice : ℕ) (shared cleared after : Applications M) (old : Hosted M) → phase ≡ Adding
-      → seen phase rects known slice shared ≡ old → known' ≡ values rects [] → shared.moment ≡ 0
+  pub started_is : (phase : Phase) (rects : List Rect) (known known' : Values) (asker : Option ℕ) (slice : ℕ) (shared cleared after : Applications M) (old : Hosted M) → phase ≡ Adding
+      → seen phase rects known asker slice shared ≡ old → known' ≡ values rects [] → shared.moment ≡ 0
       → cleared ≡ record shared { turns = [] } → after.parts ≡ map (stage_done answer cleared.moment) cleared.parts
       → after.turns ≡ cleared.turns ++ turns_of slice (map (needs answer cleared.moment) cleared.parts)
-      → seen (Reached 0) rects known' slice after ≡ after_start answer old
-  started_is phase rects known known' slice shared cleared after old adding is knows start clear done told =
+      → seen (Reached 0) rects known' asker slice after ≡ after_start answer old
+  started_is phase rects known known' asker slice shared cleared after old adding is knows start clear done told =
       let parts : after.parts ≡ map (stage_done answer 0) shared.parts =
       done ∙ ap (λ (h : Applications M). map (stage_done answer h.moment) h.parts) clear ∙ ap (λ n. map (stage_done answer n) shared.parts) start in
       let turns : after.turns ≡ turns_of slice (map (needs answer 0) shared.parts) =
       told ∙ ap (λ (h : Applications M). h.turns ++ turns_of slice (map (needs answer h.moment) h.parts)) clear ∙ ap (λ n. turns_of slice (map (needs answer n) shared.parts)) start in
-      ap (λ ps. record { held = record { phase = Reached 0; known = known'; parts = ps }; slice = slice; turns = after.turns }) parts
-      ∙ ap (λ ts. record { held = record { phase = Reached 0; known = known'; parts = map (stage_done answer 0) shared.parts }; slice = slice; turns = ts }) turns
-      ∙ ap (λ k. record { held = record { phase = Reached 0; known = k; parts = map (stage_done answer 0) shared.parts }; slice = slice; turns = turns_of slice (map (needs answer 0) shared.parts) }) knows
-      ∙ ap (λ p. after_start answer (seen p rects known slice shared)) (sym adding)
+      ap (λ ps. record { held = record { phase = Reached 0; known = known'; parts = ps }; slice = slice; turns = after.turns; asker = None }) parts
+      ∙ ap (λ ts. record { held = record { phase = Reached 0; known = known'; parts = map (stage_done answer 0) shared.parts }; slice = slice; turns = ts; asker = None }) turns
+      ∙ ap (λ k. record { held = record { phase = Reached 0; known = k; parts = map (stage_done answer 0) shared.parts }; slice = slice; turns = turns_of slice (map (needs answer 0) shared.parts); asker = None }) knows
+      ∙ ap (λ p. after_start answer (seen p rects known asker slice shared)) (sym adding)
       ∙ ap (after_start answer) is
 
-  pub gone_is : (phase to : Phase) (before moment : ℕ) (rects : List Rect) (known : Values) (slice : ℕ) (shared cleared after : Applications M) (old : Hosted M) → phase ≡ Reached before → IsAt moment to
-      → seen phase rects known slice shared ≡ old → AllRest shared.parts → cleared ≡ record shared { turns = [] }
+  pub gone_is : (phase to : Phase) (before moment : ℕ) (rects : List Rect) (known : Values) (asker : Option ℕ) (slice : ℕ) (shared cleared after : Applications M) (old : Hosted M) → phase ≡ Reached before → IsAt moment to
+      → seen phase rects known asker slice shared ≡ old → AllRest shared.parts → cleared ≡ record shared { turns = [] }
       → applications after.parts ≡ map (passed answer moment) (applications cleared.parts) → AllRest after.parts
       → after.turns ≡ cleared.turns ++ turns_on_the_way answer slice moment (applications cleared.parts)
-      → seen to rects known slice after ≡ gone_to answer to moment old
-  gone_is phase to before moment rects known slice shared cleared after old from at is rest clear done rests told =
+      → seen to rects known asker slice after ≡ gone_to answer to moment old
+  gone_is phase to before moment rects known asker slice shared cleared after old from at is rest clear done rests told =
       let parts : after.parts ≡ map (with_passed answer moment) shared.parts =
       all_rest answer after.parts rests ∙ ap (map at_rest) (done ∙ ap (λ (h : Applications M). map (passed answer moment) (applications h.parts)) clear) ∙ brought_all answer moment shared.parts rest in
       let turns : after.turns ≡ turns_on_the_way answer slice moment (applications shared.parts) = told ∙ ap (λ (h : Applications M). h.turns ++ turns_on_the_way answer slice moment (applications h.parts)) clear in
       let knows : known_by to rects known ≡ known_by phase rects known = known_on to moment rects known at ∙ sym (known_reached phase before rects known from) in
-      ap (λ ps. record { held = record { phase = to; known = known_by to rects known; parts = ps }; slice = slice; turns = after.turns }) parts
-      ∙ ap (λ ts. record { held = record { phase = to; known = known_by to rects known; parts = map (with_passed answer moment) shared.parts }; slice = slice; turns = ts }) turns
-      ∙ ap (λ k. record { held = record { phase = to; known = k; parts = map (with_passed answer moment) shared.parts }; slice = slice; turns = turns_on_the_way answer slice moment (applications shared.parts) }) knows
+      let nobody : asker_in to asker ≡ asker_in phase asker = asker_on to moment asker at ∙ sym (asker_reached phase before asker from) in
+      ap (λ ps. record { held = record { phase = to; known = known_by to rects known; parts = ps }; slice = slice; turns = after.turns; asker = asker_in to asker }) parts
+      ∙ ap (λ ts. record { held = record { phase = to; known = known_by to rects known; parts = map (with_passed answer moment) shared.parts }; slice = slice; turns = ts; asker = asker_in to asker }) turns
+      ∙ ap (λ k. record { held = record { phase = to; known = k; parts = map (with_passed answer moment) shared.parts }; slice = slice; turns = turns_on_the_way answer slice moment (applications shared.parts); asker = asker_in to asker }) knows
+      ∙ ap (λ a. record { held = record { phase = to; known = known_by phase rects known; parts = map (with_passed answer moment) shared.parts }; slice = slice; turns = turns_on_the_way answer slice moment (applications shared.parts); asker = a }) nobody
       ∙ ap (gone_to answer to moment) is
 
-  pub lined_is : (phase : Phase) (before : ℕ) (line : Line) (first : List Rect) (earlier : List Line) (rects : List Rect) (known known' : Values) (slice : ℕ) (given : List Delivery)
-      (shared cleared mid moved after : Applications M) (old : Hosted M)
-      → seen phase rects known slice shared ≡ old → cleared ≡ record shared { turns = [] } → known' ≡ values first (line ∷ earlier) → given ≡ routes first earlier line
+  pub lined_is : (phase : Phase) (before : ℕ) (line : Line) (first : List Rect) (earlier : List Line) (rects : List Rect) (known known' : Values) (asker : Option ℕ) (slice : ℕ) (given : List Delivery)
+      (shared cleared mid moved after : Applications M) (old : Hosted M) → phase ≡ Reached before
+      → seen phase rects known asker slice shared ≡ old → cleared ≡ record shared { turns = [] } → known' ≡ values first (line ∷ earlier) → given ≡ routes first earlier line
       → applications mid.parts ≡ map (passed answer line.moment) (applications cleared.parts) → mid.turns ≡ cleared.turns ++ turns_on_the_way answer slice line.moment (applications cleared.parts)
       → moved ≡ record mid { moment = line.moment }
       → after.parts ≡ map at_rest (after_given answer 0 given (applications moved.parts))
       → after.turns ≡ moved.turns ++ turns_given answer slice (stages_of given) (applications moved.parts)
-      → seen (Reached line.moment) rects known' slice after ≡ after_line answer first earlier line old
-  lined_is phase before line first earlier rects known known' slice given shared cleared mid moved after old is clear knows gives done told on parts turns =
+      → seen (Reached line.moment) rects known' asker slice after ≡ after_line answer first earlier line old
+  lined_is phase before line first earlier rects known known' asker slice given shared cleared mid moved after old from is clear knows gives done told on parts turns =
       let apps : List (Application M) = map (passed answer line.moment) (applications shared.parts) in
       let there : applications moved.parts ≡ apps =
       ap (λ (h : Applications M). applications h.parts) on ∙ done ∙ ap (λ (h : Applications M). map (passed answer line.moment) (applications h.parts)) clear in
@@ -223,11 +235,13 @@ module _ {M : Type 0} (answer : M → Meaning) where
       turns ∙ ap (λ ts. ts ++ turns_given answer slice (stages_of given) (applications moved.parts)) way
       ∙ ap (λ ds. turns_on_the_way answer slice line.moment (applications shared.parts) ++ turns_given answer slice (stages_of ds) (applications moved.parts)) gives
       ∙ ap (λ apps. turns_on_the_way answer slice line.moment (applications shared.parts) ++ turns_given answer slice (stages_of (routes first earlier line)) apps) there in
-      ap (λ ps. record { held = record { phase = Reached line.moment; known = known'; parts = ps }; slice = slice; turns = after.turns }) all
-      ∙ ap (λ ts. record { held = record { phase = Reached line.moment; known = known'; parts = map at_rest (after_given answer 0 (routes first earlier line) apps) }; slice = slice; turns = ts }) taken
+      ap (λ ps. record { held = record { phase = Reached line.moment; known = known'; parts = ps }; slice = slice; turns = after.turns; asker = None }) all
+      ∙ ap (λ ts. record { held = record { phase = Reached line.moment; known = known'; parts = map at_rest (after_given answer 0 (routes first earlier line) apps) }; slice = slice; turns = ts; asker = None }) taken
       ∙ ap (λ k. record {
         held = record { phase = Reached line.moment; known = k; parts = map at_rest (after_given answer 0 (routes first earlier line) apps) };
         slice = slice;
         turns = turns_on_the_way answer slice line.moment (applications shared.parts) ++ turns_given answer slice (stages_of (routes first earlier line)) apps;
+        asker = None;
       }) knows
+      ∙ ap (λ a. record (after_line answer first earlier line (seen phase rects known asker slice shared)) { asker = a }) (sym (asker_reached phase before asker from))
       ∙ ap (after_line answer first earlier line) is

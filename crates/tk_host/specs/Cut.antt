@@ -1,6 +1,6 @@
 -- Meaning. The turns that are told of a call in which memory was refused, and the steps that are left then. Of a `Part`, a word of steps, only its application
 -- is asked.
-use Rattle.std.specs.Prelude.{◌≡◌, ℕ, ◌+◌, ◌≤◌, List, ◌++◌, Option, option_map, slice_get}
+use Rattle.std.specs.Prelude.{◌≡◌, ℕ, ◌+◌, ◌≤◌, ◌<◌, List, ◌++◌, length, Option, Some, option_map, slice_get}
 use Rattle.std.specs.Option.{option_map_or}
 use Rattle.tk_base.specs.declared.budget.Budget.{Budget}
 use Rattle.tk_route.specs.declared.fault.HostFault.{HostFault}
@@ -13,9 +13,8 @@ use Rattle.tk_host.specs.Held.{Hosted}
 
 -- A front of the turns that there would have been, and behind it the turn that want of memory broke off: of the slot whose turn was next, which would
 -- have taken so many steps, and took at most a slice.
-pub record IsCutShort (slice : ℕ) (whole told : List Turn) : Type 0 where
+pub record IsCutShort (slice slot : ℕ) (whole told : List Turn) : Type 0 where
   pub front : List Turn
-  pub slot : ℕ
   pub next : ℕ
   pub taken : ℕ
   pub back : List Turn
@@ -23,12 +22,19 @@ pub record IsCutShort (slice : ℕ) (whole told : List Turn) : Type 0 where
   pub told_is : told ≡ front ++ one_turn slot taken
   pub few : taken ≤ slice
 
--- The turns of a call in which memory was refused are cut short; one that was refused with a number took none.
-abbrev pub CutShortBy : HostFault → ℕ → List Turn → List Turn → Type 0
-CutShortBy NoMemory slice whole told = IsCutShort slice whole told
-CutShortBy (Refused found) slice whole told = Unit {0}
+-- Memory was refused to one of the applications, which is told: the turns of the call are cut short by the want of it in a turn of that one.
+pub record IsBrokenOff {M : Type 0} (whole : List Turn) (old new : Hosted M) : Type 0 where
+  pub slot : ℕ
+  pub asked : new.asker ≡ Some slot
+  pub there : slot < length old.held.parts
+  pub cut : IsCutShort old.slice slot whole new.turns
 
 module _ {M : Type 0} where
+  -- A call in which memory was refused is broken off; one that was refused with a number took no turn.
+  abbrev pub CutShortBy : HostFault → List Turn → Hosted M → Hosted M → Type 0
+  CutShortBy NoMemory whole old new = IsBrokenOff whole old new
+  CutShortBy (Refused found) whole old new = Unit {0}
+
   -- how many steps the part in a slot has left
   abbrev pub left_in : ℕ → List (Part M) → ℕ
   left_in slot parts = option_map_or (λ (part : Part M). part.application.steps) (slice_get parts slot) 0
@@ -47,10 +53,10 @@ module _ {M : Type 0} where
 
   -- A call in which memory was refused tells turns so; one that was refused with a number took none.
   abbrev pub CutBy : HostFault → List Turn → Hosted M → Hosted M → Type 0
-  CutBy NoMemory whole old new = IsCutShort old.slice whole new.turns × TellsAll new.turns old.held.parts new.held.parts
+  CutBy NoMemory whole old new = IsBrokenOff whole old new × TellsAll new.turns old.held.parts new.held.parts
   CutBy (Refused found) whole old new = Unit {0}
 
   -- So does a line, whose events may grant steps.
   abbrev pub CutByLine : HostFault → List Turn → Hosted M → Hosted M → Type 0
-  CutByLine NoMemory whole old new = IsCutShort old.slice whole new.turns × TellsAtLeast new.turns old.held.parts new.held.parts
+  CutByLine NoMemory whole old new = IsBrokenOff whole old new × TellsAtLeast new.turns old.held.parts new.held.parts
   CutByLine (Refused found) whole old new = Unit {0}

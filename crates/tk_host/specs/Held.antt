@@ -1,7 +1,7 @@
 -- Meaning. What a host holds, and what it holds after a list of calls. Words of steps: of what is under way in an application `Part`, `Work`, `Rests`, `added`
 -- and `stage_done`, and by the code's jobs `alone` and `passed`, which are `alone_by` and `passed_by` by whatever meets the equations of `update` and *Settle*
 -- (law `alone_by_settle`). Sections are said without them by `sections_by` (`Sections`), of what calls say: `given_by`, `phase_after` and `routed_by` here.
-use Rattle.std.specs.Prelude.{ℕ, ◌+◌, List, [], ◌∷◌, ◌++◌, map}
+use Rattle.std.specs.Prelude.{ℕ, ◌+◌, List, [], ◌∷◌, ◌++◌, map, Option, None}
 use Rattle.tk_base.specs.declared.rect.Rect.{Rect}
 use Rattle.tk_base.specs.declared.local_event.LocalEvent.{LocalEvent}
 use Rattle.tk_route.specs.Lines.{Line, at, values}
@@ -27,11 +27,13 @@ pub record HostState (M : Type 0) : Type 0 where
   pub known : Values
   pub parts : List (Part M)
 
--- and beside that how many steps a turn has at most, and the turns of the last call that ran applications
+-- and beside that how many steps a turn has at most, the turns of the last call that ran applications, and the slot of the application that asked for the
+-- memory that was refused, if it was while they ran
 pub record Hosted (M : Type 0) : Type 0 where
   pub held : HostState M
   pub slice : ℕ
   pub turns : List Turn
+  pub asker : Option ℕ
 
 -- a call that was not refused
 pub data Call (M : Type 0) : Type 0 where
@@ -47,6 +49,13 @@ known_by Adding rects known = values rects []
 known_by (Reached moment) rects known = known
 known_by (Finished moment) rects known = known
 known_by Lost rects known = known
+
+-- who asked for memory is told only once it was refused
+abbrev pub asker_in : Phase → Option ℕ → Option ℕ
+asker_in Adding asker = None
+asker_in (Reached moment) asker = None
+asker_in (Finished moment) asker = None
+asker_in Lost asker = asker
 
 -- the moment that a host has come to
 abbrev pub reached : Phase → ℕ

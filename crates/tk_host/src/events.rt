@@ -1,6 +1,6 @@
 //! What a line gives to applications, and what comes of it, in turns of slices.
 
-ghost use Rattle.std.specs.Prelude.{◌≡◌, ◌≢◌, ◌<◌, ◌++◌, [], ◌∷◌, map, length, OnErr, OnOk};
+ghost use Rattle.std.specs.Prelude.{◌≡◌, ◌≢◌, ◌<◌, ◌++◌, [], ◌∷◌, map, length, IfErr, OnOk};
 ghost use Rattle.tk_app.specs.Turns.{DeliversIn};
 ghost use Rattle.tk_route.specs.Answers.{deliveries};
 ghost use Rattle.tk_host.specs.Cut.{IsCutShort};
@@ -10,7 +10,7 @@ ghost use Rattle.tk_host.specs.Slots.{AreAt, KeepsAll, RestsIn, given_from};
 ghost use Rattle.tk_host.specs.Turns.{after_given, applications, stages_of, turns_given};
 
 use crate::stages::{begin_settling, stage};
-use std::alloc::AllocError;
+use crate::unserved::Unserved;
 use tk_app::{AliasService, LocalEvent, Shared};
 use tk_route::{Delivery, Routed};
 
@@ -20,7 +20,7 @@ pub fn deliver_all<M: AliasService>(
     shared: &mut Shared<M>,
     routed: Routed,
     slice: u64,
-) -> Result<(), AllocError>
+) -> Result<(), Unserved>
     requires slice { 0 < slice }
     requires rest { AllRest shared.old.parts }
     requires now { AreAt shared.old.moment (deliveries routed) }
@@ -28,8 +28,9 @@ pub fn deliver_all<M: AliasService>(
     ensures parts { OnOk result (shared.new.parts ≡ map at_rest (after_given M.answer 0 (deliveries routed) (applications shared.old.parts))) }
     ensures turns { OnOk result (shared.new.turns
         ≡ shared.old.turns ++ turns_given M.answer slice (stages_of (deliveries routed)) (applications shared.old.parts)) }
-    ensures cut { OnErr result (IsCutShort slice
+    ensures cut { IfErr result (λ unserved. IsCutShort slice unserved.slot
         (shared.old.turns ++ turns_given M.answer slice (stages_of (deliveries routed)) (applications shared.old.parts)) shared.new.turns) }
+    ensures there { IfErr result (λ unserved. unserved.slot < length shared.old.parts) }
     ensures keeps { KeepsAll shared.old shared.new }
 {
     match routed {
@@ -50,15 +51,16 @@ fn deliver_one<M: AliasService>(
     shared: &mut Shared<M>,
     only: Delivery,
     slice: u64,
-) -> Result<(), AllocError>
+) -> Result<(), Unserved>
     requires slice { 0 < slice }
     requires rest { AllRest shared.old.parts }
     requires now { only.event.moment ≡ shared.old.moment }
     ensures moment { OnOk result (shared.new.moment ≡ shared.old.moment) }
     ensures parts { OnOk result (shared.new.parts ≡ map at_rest (after_given M.answer 0 (only ∷ []) (applications shared.old.parts))) }
     ensures turns { OnOk result (shared.new.turns ≡ shared.old.turns ++ turns_given M.answer slice (stages_of (only ∷ [])) (applications shared.old.parts)) }
-    ensures cut { OnErr result (IsCutShort slice
+    ensures cut { IfErr result (λ unserved. IsCutShort slice unserved.slot
         (shared.old.turns ++ turns_given M.answer slice (stages_of (only ∷ [])) (applications shared.old.parts)) shared.new.turns) }
+    ensures there { IfErr result (λ unserved. unserved.slot < length shared.old.parts) }
     ensures keeps { KeepsAll shared.old shared.new }
 {
     give(shared, only)?;
@@ -71,7 +73,7 @@ fn deliver_twice<M: AliasService>(
     first: Delivery,
     second: Delivery,
     slice: u64,
-) -> Result<(), AllocError>
+) -> Result<(), Unserved>
     requires slice { 0 < slice }
     requires rest { AllRest shared.old.parts }
     requires now { first.event.moment ≡ shared.old.moment }
@@ -81,8 +83,9 @@ fn deliver_twice<M: AliasService>(
     ensures parts { OnOk result (shared.new.parts ≡ map at_rest (after_given M.answer 0 (first ∷ second ∷ []) (applications shared.old.parts))) }
     ensures turns { OnOk result (shared.new.turns
         ≡ shared.old.turns ++ turns_given M.answer slice (stages_of (first ∷ second ∷ [])) (applications shared.old.parts)) }
-    ensures cut { OnErr result (IsCutShort slice
+    ensures cut { IfErr result (λ unserved. IsCutShort slice unserved.slot
         (shared.old.turns ++ turns_given M.answer slice (stages_of (first ∷ second ∷ [])) (applications shared.old.parts)) shared.new.turns) }
+    ensures there { IfErr result (λ unserved. unserved.slot < length shared.old.parts) }
     ensures keeps { KeepsAll shared.old shared.new }
 {
     deliver_one(shared, first, slice)?;
@@ -95,7 +98,7 @@ fn deliver_both<M: AliasService>(
     first: Delivery,
     second: Delivery,
     slice: u64,
-) -> Result<(), AllocError>
+) -> Result<(), Unserved>
     requires slice { 0 < slice }
     requires rest { AllRest shared.old.parts }
     requires now { first.event.moment ≡ shared.old.moment }
@@ -105,8 +108,9 @@ fn deliver_both<M: AliasService>(
     ensures parts { OnOk result (shared.new.parts ≡ map at_rest (after_given M.answer 0 (first ∷ second ∷ []) (applications shared.old.parts))) }
     ensures turns { OnOk result (shared.new.turns
         ≡ shared.old.turns ++ turns_given M.answer slice (stages_of (first ∷ second ∷ [])) (applications shared.old.parts)) }
-    ensures cut { OnErr result (IsCutShort slice
+    ensures cut { IfErr result (λ unserved. IsCutShort slice unserved.slot
         (shared.old.turns ++ turns_given M.answer slice (stages_of (first ∷ second ∷ [])) (applications shared.old.parts)) shared.new.turns) }
+    ensures there { IfErr result (λ unserved. unserved.slot < length shared.old.parts) }
     ensures keeps { KeepsAll shared.old shared.new }
 {
     give(shared, first)?;
@@ -115,11 +119,13 @@ fn deliver_both<M: AliasService>(
 }
 
 /// Gives an event to the application that it is for, which begins to settle. A slot that no application has is given nothing.
-fn give<M: AliasService>(shared: &mut Shared<M>, delivery: Delivery) -> Result<(), AllocError>
+fn give<M: AliasService>(shared: &mut Shared<M>, delivery: Delivery) -> Result<(), Unserved>
     requires now { delivery.event.moment ≡ shared.old.moment }
     requires rests { RestsIn delivery.slot shared.old.parts }
     ensures given { OnOk result (shared.new ≡ record shared.old { parts = given_from 0 delivery shared.old.parts }) }
     ensures turns { shared.new.turns ≡ shared.old.turns }
+    ensures asked { IfErr result (λ unserved. unserved.slot ≡ delivery.slot) }
+    ensures there { IfErr result (λ unserved. unserved.slot < length shared.old.parts) }
     ensures keeps { KeepsAll shared.old shared.new }
 {
     if delivery.slot >= shared.len() {
@@ -134,14 +140,18 @@ fn deliver<M: AliasService>(
     shared: &mut Shared<M>,
     slot: usize,
     event: LocalEvent,
-) -> Result<(), AllocError>
+) -> Result<(), Unserved>
     requires slot { slot < length shared.old.parts }
     requires now { event.moment ≡ shared.old.moment }
     requires rests { RestsIn slot shared.old.parts }
     ensures delivered { OnOk result (DeliversIn slot event shared.old shared.new) }
     ensures turns { shared.new.turns ≡ shared.old.turns }
+    ensures asked { IfErr result (λ unserved. unserved.slot ≡ slot) }
     ensures keeps { KeepsAll shared.old shared.new }
 {
     let mut view = shared.view(slot);
-    view.deliver(event)
+    match view.deliver(event) {
+        Ok(()) => Ok(()),
+        Err(_) => Err(Unserved { slot }),
+    }
 }

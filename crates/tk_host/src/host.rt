@@ -27,11 +27,13 @@ pub struct Host<M: AliasService> {
     rects: Vec<Rect>,
     router: Router,
     pub(crate) shared: Shared<M>,
+    /// To whose application memory was refused, once the host is broken.
+    asker: Option<usize>,
 }
 
 impl<M: AliasService> Model for Host<M> {
     ghost use Rattle.std.specs.Prelude.{◌≤◌};
-    ghost use Rattle.tk_host.specs.Held.{Hosted, known_by};
+    ghost use Rattle.tk_host.specs.Held.{Hosted, asker_in, known_by};
     ghost use Rattle.tk_host.specs.Ready.{IsReady, IsRouted};
 
     ghost Value = { Hosted M };
@@ -40,16 +42,17 @@ impl<M: AliasService> Model for Host<M> {
       held = record { phase = h.phase; known = known_by h.phase h.rects.items h.router; parts = h.shared.parts };
       slice = h.slice;
       turns = h.shared.turns;
+      asker = asker_in h.phase h.asker;
     } };
 
     ghost invariant = { λ h. (1 ≤ h.slice) × IsReady M.answer h.phase h.shared.moment h.shared.parts × IsRouted h.phase h.rects.items h.router h.shared.parts };
 }
 
 impl<M: AliasService> Host<M> {
-    ghost use Rattle.std.specs.Prelude.{◌≡◌, ◌≢◌, ◌≤◌, ℕ, List, [], ◌∷◌, ◌++◌, map, slice_get, Some, IfOk, IfErr, OnOk, OnErr, MatchResult};
+    ghost use Rattle.std.specs.Prelude.{◌≡◌, ◌≢◌, ◌≤◌, ℕ, List, [], ◌∷◌, ◌++◌, map, slice_get, Some, None, IfOk, IfErr, OnOk, OnErr, MatchResult};
     ghost use Rattle.tk_app.specs.Section.{section};
     ghost use Rattle.tk_base.specs.declared.rect.Rect.{Rect};
-    ghost use Rattle.tk_host.specs.Cut.{CutBy, CutByLine, CutShortBy, IsCutShort, TellsAtLeast};
+    ghost use Rattle.tk_host.specs.Cut.{CutBy, CutByLine, CutShortBy, IsBrokenOff, TellsAtLeast};
     ghost use Rattle.tk_route.specs.Lines.{Line, at, values};
     ghost use Rattle.tk_host.specs.Held.{AddApp, AdvanceTo, Call, End, LineAt, Start, after_advance, after_end, after_line, after_start, gone_to, held_after, turns_after, with_app};
     ghost use Rattle.tk_host.specs.Ready.{IsAt};
@@ -64,7 +67,7 @@ impl<M: AliasService> Host<M> {
     /// A host without applications. Each takes at most `slice` steps in a turn; what comes of it doesn't depend on that.
     pub fn new(alloc: Global, slice: u64) -> Result<Host<M>, AllocError>
         requires { 1 ≤ slice }
-        ensures { IfOk result (λ host. host ≡ record { held = held_after M.answer []; slice = slice; turns = [] }) }
+        ensures { IfOk result (λ host. host ≡ record { held = held_after M.answer []; slice = slice; turns = []; asker = None }) }
     {
         Ok(Host {
             alloc,
@@ -73,6 +76,7 @@ impl<M: AliasService> Host<M> {
             rects: Vec::new(alloc),
             router: router_of(&[]),
             shared: Shared::new(alloc)?,
+            asker: None,
         })
     }
 
@@ -133,7 +137,13 @@ impl<M: AliasService> Host<M> {
         self.router = router_of(self.rects.as_slice());
         self.phase = Phase::Lost;
         self.shared.clear_turns();
-        stage(&mut self.shared, self.slice)?;
+        match stage(&mut self.shared, self.slice) {
+            Ok(()) => {}
+            Err(unserved) => {
+                self.asker = Some(unserved.slot);
+                return Err(HostFault::NoMemory);
+            }
+        }
         self.phase = Phase::Reached(0);
         Ok(())
     }
@@ -157,7 +167,7 @@ impl<M: AliasService> Host<M> {
         ensures cut { (calls : List (Call M)) → self.old.held ≡ held_after M.answer calls →
             IfErr result (λ fault. CutByLine fault (turns_after M.answer self.old.slice calls (LineAt moment line)) self.old self.new) }
         ensures cut_short { (first : List Rect) (earlier : List Line) → self.old.held.known ≡ values first earlier →
-            IfErr result (λ fault. CutShortBy fault self.old.slice (after_line M.answer first earlier (at moment line) self.old).turns self.new.turns) }
+            IfErr result (λ fault. CutShortBy fault (after_line M.answer first earlier (at moment line) self.old).turns self.old self.new) }
     {
         self.may_take(moment, &line)?;
         self.tested_line(moment, line)?;
@@ -178,18 +188,30 @@ impl<M: AliasService> Host<M> {
         ensures turns { (calls : List (Call M)) → self.old.held ≡ held_after M.answer calls →
             OnOk result (self.new.turns ≡ turns_after M.answer self.old.slice calls (LineAt moment line)) }
         ensures cut { (calls : List (Call M)) → self.old.held ≡ held_after M.answer calls →
-            OnErr result (IsCutShort self.old.slice (turns_after M.answer self.old.slice calls (LineAt moment line)) self.new.turns
+            OnErr result (IsBrokenOff (turns_after M.answer self.old.slice calls (LineAt moment line)) self.old self.new
             × TellsAtLeast self.new.turns self.old.held.parts self.new.held.parts) }
         ensures cut_short { (first : List Rect) (earlier : List Line) → self.old.held.known ≡ values first earlier →
-            OnErr result (IsCutShort self.old.slice (after_line M.answer first earlier (at moment line) self.old).turns self.new.turns) }
+            OnErr result (IsBrokenOff (after_line M.answer first earlier (at moment line) self.old).turns self.old self.new) }
     {
         let routed = self.router.tested_line(moment, line);
         self.phase = Phase::Lost;
         let shared = &mut self.shared;
         shared.clear_turns();
-        advance(shared, moment, self.slice)?;
+        match advance(shared, moment, self.slice) {
+            Ok(()) => {}
+            Err(unserved) => {
+                self.asker = Some(unserved.slot);
+                return Err(AllocError);
+            }
+        }
         shared.set_moment(moment);
-        deliver_all(shared, routed, self.slice)?;
+        match deliver_all(shared, routed, self.slice) {
+            Ok(()) => {}
+            Err(unserved) => {
+                self.asker = Some(unserved.slot);
+                return Err(AllocError);
+            }
+        }
         self.phase = Phase::Reached(moment);
         Ok(())
     }
@@ -264,6 +286,18 @@ impl<M: AliasService> Host<M> {
         self.shared.turns()
     }
 
+    /// The slot of the application that asked for the memory that was refused, once the host is broken (42): the one whose turn it was, or which was
+    /// about to do what comes of an event or is due. Before, none. It takes no memory.
+    pub fn asker(&self) -> Option<usize>
+        ensures asker { result ≡ self.now.asker }
+        ensures none { self.now.held.phase ≢ Phase.Lost → result ≡ None }
+    {
+        match self.phase {
+            Phase::Lost => self.asker,
+            _ => None,
+        }
+    }
+
     /// The commands in which the application in a slot stood as it ran out of steps last, the innermost first; none where it never did. `None` where
     /// the slot has no application. It takes no memory.
     pub fn stopped_at(&self, slot: usize) -> Option<&[CommandPlace]> {
@@ -296,7 +330,13 @@ impl<M: AliasService> Host<M> {
         self.phase = Phase::Lost;
         let shared = &mut self.shared;
         shared.clear_turns();
-        advance(shared, moment, self.slice)?;
+        match advance(shared, moment, self.slice) {
+            Ok(()) => {}
+            Err(unserved) => {
+                self.asker = Some(unserved.slot);
+                return Err(HostFault::NoMemory);
+            }
+        }
         self.phase = phase;
         Ok(())
     }
@@ -450,6 +490,7 @@ impl<M: AliasService> Drop for Host<M> {
             rects: _,
             router: _,
             shared: _,
+            asker: _,
         } = self;
     }
 }

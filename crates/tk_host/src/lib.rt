@@ -8,6 +8,7 @@ mod laws;
 mod phase;
 mod spec;
 mod stages;
+mod unserved;
 
 pub use host::Host;
 pub use laws::{

@@ -1,6 +1,6 @@
 //! Stages: what all applications do at one moment, in turns of slices, and the way from stage to stage.
 
-ghost use Rattle.std.specs.Prelude.{◌≡◌, ◌-◌, ◌≤◌, ◌<◌, ◌++◌, ℕ, map, length, true, false, Ok, OnOk, OnErr, IfOk, sum_by};
+ghost use Rattle.std.specs.Prelude.{◌≡◌, ◌-◌, ◌≤◌, ◌<◌, ◌++◌, ℕ, map, length, true, false, Ok, OnOk, OnErr, IfErr, IfOk, sum_by};
 ghost use Rattle.tk_app.specs.Rounds.{one_turn, round, turns_of};
 ghost use Rattle.tk_app.specs.Stages.{first_moment_due};
 ghost use Rattle.tk_app.specs.Due.{IsPast};
@@ -15,7 +15,7 @@ ghost use Rattle.tk_host.specs.Slots.{BeginsAt, CountsAll, TakesTurn, begun_at};
 ghost use Rattle.tk_host.specs.Turns.{applications, turns_on_the_way};
 ghost use Rattle.tk_base.specs.Limits.{last_moment};
 
-use std::alloc::AllocError;
+use crate::unserved::Unserved;
 use tk_app::{AliasService, AppEnd, Shared, earlier};
 
 /// Goes on to a moment, from due moment to due moment: at each the applications of which something is due then do it.
@@ -23,7 +23,7 @@ pub fn advance<M: AliasService>(
     shared: &mut Shared<M>,
     target: u64,
     slice: u64,
-) -> Result<(), AllocError>
+) -> Result<(), Unserved>
     requires slice { 0 < slice }
     requires in_time { target ≤ last_moment }
     requires rest { AllRest shared.old.parts }
@@ -35,7 +35,8 @@ pub fn advance<M: AliasService>(
     ensures through { OnOk result (IsPast target (first_moment_due next_due (settled M.answer) (applications shared.new.parts))) }
     ensures ahead { OnOk result (shared.new.moment ≤ target) }
     ensures turns { OnOk result (shared.new.turns ≡ shared.old.turns ++ turns_on_the_way M.answer slice target (applications shared.old.parts)) }
-    ensures cut { OnErr result (IsCutShort slice (shared.old.turns ++ turns_on_the_way M.answer slice target (applications shared.old.parts)) shared.new.turns) }
+    ensures cut { IfErr result (λ unserved. IsCutShort slice unserved.slot (shared.old.turns ++ turns_on_the_way M.answer slice target (applications shared.old.parts)) shared.new.turns) }
+    ensures there { IfErr result (λ unserved. unserved.slot < length shared.old.parts) }
     ensures counts { CountsAll shared.old shared.new }
 {
     'moments: while let Some(due) = next_due(shared) {
@@ -61,10 +62,11 @@ fn next_due<M: AliasService>(shared: &Shared<M>) -> Option<u64>
 }
 
 /// The applications of which something is due at a moment begin to settle.
-fn begin_all<M: AliasService>(shared: &mut Shared<M>, moment: u64) -> Result<(), AllocError>
+fn begin_all<M: AliasService>(shared: &mut Shared<M>, moment: u64) -> Result<(), Unserved>
     requires { shared.old.moment ≡ moment }
     ensures begun { OnOk result (shared.new ≡ record shared.old { parts = map (begun_at moment) shared.old.parts }) }
     ensures turns { shared.new.turns ≡ shared.old.turns }
+    ensures there { IfErr result (λ unserved. unserved.slot < length shared.old.parts) }
     ensures counts { CountsAll shared.old shared.new }
 {
     for slot in 0..shared.len() {
@@ -74,15 +76,12 @@ fn begin_all<M: AliasService>(shared: &mut Shared<M>, moment: u64) -> Result<(),
 }
 
 /// The application in a slot begins to settle, if something is due of it at the moment.
-fn begin<M: AliasService>(
-    shared: &mut Shared<M>,
-    slot: usize,
-    moment: u64,
-) -> Result<(), AllocError>
+fn begin<M: AliasService>(shared: &mut Shared<M>, slot: usize, moment: u64) -> Result<(), Unserved>
     requires slot { slot < length shared.old.parts }
     requires moment { shared.old.moment ≡ moment }
     ensures begun { OnOk result (BeginsAt moment slot shared.old shared.new) }
     ensures turns { shared.new.turns ≡ shared.old.turns }
+    ensures asked { IfErr result (λ unserved. unserved.slot ≡ slot) }
     ensures counts { CountsAll shared.old shared.new }
 {
     let Some(due) = shared.next_due(slot) else {
@@ -95,26 +94,28 @@ fn begin<M: AliasService>(
 }
 
 /// The application in a slot begins to settle.
-pub fn begin_settling<M: AliasService>(
-    shared: &mut Shared<M>,
-    slot: usize,
-) -> Result<(), AllocError>
+pub fn begin_settling<M: AliasService>(shared: &mut Shared<M>, slot: usize) -> Result<(), Unserved>
     requires { slot < length shared.old.parts }
     ensures begun { OnOk result (BeginsIn slot shared.old shared.new) }
     ensures turns { shared.new.turns ≡ shared.old.turns }
+    ensures asked { IfErr result (λ unserved. unserved.slot ≡ slot) }
     ensures counts { CountsAll shared.old shared.new }
 {
     let mut view = shared.view(slot);
-    view.begin_settling()
+    match view.begin_settling() {
+        Ok(()) => Ok(()),
+        Err(_) => Err(Unserved { slot }),
+    }
 }
 
 /// Does what is under way in each application, in turns of at most `slice` steps.
-pub fn stage<M: AliasService>(shared: &mut Shared<M>, slice: u64) -> Result<(), AllocError>
+pub fn stage<M: AliasService>(shared: &mut Shared<M>, slice: u64) -> Result<(), Unserved>
     requires { 0 < slice }
     ensures moment { OnOk result (shared.new.moment ≡ shared.old.moment) }
     ensures done { OnOk result (shared.new.parts ≡ map (stage_done M.answer shared.old.moment) shared.old.parts) }
     ensures turns { OnOk result (shared.new.turns ≡ shared.old.turns ++ turns_of slice (map (needs M.answer shared.old.moment) shared.old.parts)) }
-    ensures cut { OnErr result (IsCutShort slice (shared.old.turns ++ turns_of slice (map (needs M.answer shared.old.moment) shared.old.parts)) shared.new.turns) }
+    ensures cut { IfErr result (λ unserved. IsCutShort slice unserved.slot (shared.old.turns ++ turns_of slice (map (needs M.answer shared.old.moment) shared.old.parts)) shared.new.turns) }
+    ensures there { IfErr result (λ unserved. unserved.slot < length shared.old.parts) }
     ensures counts { CountsAll shared.old shared.new }
 {
     let mut more = true;
@@ -125,14 +126,15 @@ pub fn stage<M: AliasService>(shared: &mut Shared<M>, slice: u64) -> Result<(), 
 }
 
 /// One round: each application in which something is under way takes a turn, in the order of their slots. It answers whether one needs more.
-fn run_round<M: AliasService>(shared: &mut Shared<M>, slice: u64) -> Result<bool, AllocError>
+fn run_round<M: AliasService>(shared: &mut Shared<M>, slice: u64) -> Result<bool, Unserved>
     requires { 0 < slice }
     ensures moment { OnOk result (shared.new.moment ≡ shared.old.moment) }
     ensures done { OnOk result (map (stage_done M.answer shared.old.moment) shared.new.parts ≡ map (stage_done M.answer shared.old.moment) shared.old.parts) }
     ensures left { OnOk result (map (needs M.answer shared.old.moment) shared.new.parts
         ≡ map (λ need. need - slice) (map (needs M.answer shared.old.moment) shared.old.parts)) }
     ensures turns { OnOk result (shared.new.turns ≡ shared.old.turns ++ round slice (map (needs M.answer shared.old.moment) shared.old.parts) 0) }
-    ensures cut { OnErr result (IsCutShort slice (shared.old.turns ++ round slice (map (needs M.answer shared.old.moment) shared.old.parts) 0) shared.new.turns) }
+    ensures cut { IfErr result (λ unserved. IsCutShort slice unserved.slot (shared.old.turns ++ round slice (map (needs M.answer shared.old.moment) shared.old.parts) 0) shared.new.turns) }
+    ensures there { IfErr result (λ unserved. unserved.slot < length shared.old.parts) }
     ensures counts { CountsAll shared.old shared.new }
     ensures last { result ≡ Ok false → shared.new.parts ≡ map (stage_done M.answer shared.old.moment) shared.old.parts }
     ensures falls { result ≡ Ok true → sum_by (needs M.answer shared.old.moment) shared.new.parts < sum_by (needs M.answer shared.old.moment) shared.old.parts }
@@ -150,20 +152,22 @@ fn take_turn<M: AliasService>(
     shared: &mut Shared<M>,
     slot: usize,
     slice: u64,
-) -> Result<bool, AllocError>
+) -> Result<bool, Unserved>
     requires slot { slot < length shared.old.parts }
     requires slice { 0 < slice }
     ensures taken { IfOk result (λ again. TakesTurn M.answer slice slot again shared.old shared.new) }
-    ensures cut { OnErr result ((next : ℕ) → IsCutShort slice (shared.old.turns ++ one_turn slot next) shared.new.turns) }
+    ensures cut { OnErr result ((next : ℕ) → IsCutShort slice slot (shared.old.turns ++ one_turn slot next) shared.new.turns) }
+    ensures asked { IfErr result (λ unserved. unserved.slot ≡ slot) }
     ensures counts { CountsAll shared.old shared.new }
 {
     if !shared.is_under_way(slot) {
         return Ok(false);
     }
     let mut view = shared.view(slot);
-    match view.settle(slice)? {
-        AppEnd::More => Ok(true),
-        AppEnd::Settled => Ok(false),
-        AppEnd::Stopped => Ok(false),
+    match view.settle(slice) {
+        Ok(AppEnd::More) => Ok(true),
+        Ok(AppEnd::Settled) => Ok(false),
+        Ok(AppEnd::Stopped) => Ok(false),
+        Err(_) => Err(Unserved { slot }),
     }
 }

@@ -11,9 +11,9 @@ mod services;
 
 pub use input::{InputFault, read_input};
 pub use laws::{first_format_sections, same_bytes, session_in_range, session_within};
-pub use outcome::Outcome;
+pub use outcome::{Ending, Outcome};
 pub use output::{WriteFault, write_whole};
-pub use playing::{PlayFault, filled, play, run_through};
+pub use playing::{PlayFault, Unplayed, filled, play, play_or_tell, run_through};
 pub use program::run;
 pub use services::services_of;
 pub use tk_host::{

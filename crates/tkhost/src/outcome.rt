@@ -1,10 +1,11 @@
-ghost use Rattle.std.specs.Prelude.{◌≡◌, ◌++◌, decimal, OnOk, OnErr};
+ghost use Rattle.std.specs.Prelude.{◌≡◌, ◌++◌, decimal, Some, OnOk, OnErr};
 ghost use Rattle.std.specs.Io.KnownBytes.{Appends};
-ghost use Rattle.tkhost.specs.Output.{AppendsFront, status_of, refusal, message_of};
+ghost use Rattle.tkhost.specs.Output.{AppendsFront, asker_line, status_of, refusal, message_of};
 
 use crate::output::{WriteFault, write_whole};
 use itoa::Buffer;
 use std::io::Write;
+use tcl_text::Text;
 
 /// How the program ends.
 #[derive(Clone, Copy, Debug, PartialEq, Eq)]
@@ -51,6 +52,60 @@ impl Outcome {
             Outcome::NoMemory => write_whole(writer, b"tkhost: out of memory\n"),
         }
     }
+}
+
+/// How the program ends, and the name of the application that asked for the memory which was refused, if one did and the name can be told.
+#[derive(Drop)]
+pub struct Ending {
+    pub outcome: Outcome,
+    pub asker: Option<Text>,
+}
+
+impl Ending {
+    ghost use Rattle.std.specs.Prelude.{◌≡◌, None, OnErr, OnOk};
+    ghost use Rattle.std.specs.Io.KnownBytes.{Appends};
+    ghost use Rattle.tkhost.specs.Output.{AppendsFront, ending_message};
+
+    /// An ending for which no application has asked for memory.
+    pub fn of(outcome: Outcome) -> Ending
+        ensures outcome { result.outcome ≡ outcome }
+        ensures asker { result.asker ≡ None }
+    {
+        Ending {
+            outcome,
+            asker: None,
+        }
+    }
+
+    /// Writes the lines that the program prints to standard error: that of the outcome, and behind it one that tells who asked. It takes no memory.
+    pub fn write_to<W: Write>(&self, writer: &mut W) -> Result<(), WriteFault>
+        ensures ok { OnOk result (Appends (W.contents writer.old) (W.contents writer.new) (ending_message self.now)) }
+        ensures err { OnErr result (AppendsFront (W.contents writer.old) (W.contents writer.new) (ending_message self.now)) }
+    {
+        self.outcome.write_to(writer)?;
+        write_asker(writer, &self.asker)
+    }
+}
+
+/// Writes the line that tells who asked, where one did.
+fn write_asker<W: Write>(writer: &mut W, asker: &Option<Text>) -> Result<(), WriteFault>
+    ensures ok { OnOk result (Appends (W.contents writer.old) (W.contents writer.new) (asker_line asker.now)) }
+    ensures err { OnErr result (AppendsFront (W.contents writer.old) (W.contents writer.new) (asker_line asker.now)) }
+{
+    match asker {
+        None => write_whole(writer, b""),
+        Some(name) => write_name(writer, name),
+    }
+}
+
+/// Writes the line that tells of an application that it asked.
+fn write_name<W: Write>(writer: &mut W, name: &Text) -> Result<(), WriteFault>
+    ensures ok { OnOk result (Appends (W.contents writer.old) (W.contents writer.new) (asker_line (Some name.now))) }
+    ensures err { OnErr result (AppendsFront (W.contents writer.old) (W.contents writer.new) (asker_line (Some name.now))) }
+{
+    write_whole(writer, b"tkhost: memory was refused to ")?;
+    write_whole(writer, name.as_str().as_bytes())?;
+    write_whole(writer, b"\n")
 }
 
 /// Writes a text and a number behind it.

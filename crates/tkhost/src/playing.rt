@@ -1,4 +1,4 @@
-ghost use Rattle.std.specs.Prelude.{◌≡◌, ◌≢◌, ◌≤◌, ℕ, List, [], ◌∷◌, ◌++◌, flat_map, length, IfOk, IfErr, OnOk, OnErr, IsErr};
+ghost use Rattle.std.specs.Prelude.{◌≡◌, ◌≢◌, ◌≤◌, ℕ, List, [], ◌∷◌, ◌++◌, flat_map, length, Option, IfOk, IfErr, OnOk, OnErr, IsErr};
 ghost use Rattle.std.specs.Io.KnownBytes.{Appends};
 ghost use Rattle.tk_app.specs.Section.{section};
 ghost use Rattle.tk_route.specs.Lines.{values};
@@ -52,6 +52,27 @@ impl<T: Drop> From<AllocFailed<T>> for PlayFault {
 
     fn from(_refused: AllocFailed<T>) -> PlayFault {
         PlayFault::NoMemory
+    }
+}
+
+/// The same, with the slot of the application that asked for the memory, if one did.
+#[derive(Clone, Copy, Debug, PartialEq, Eq)]
+pub enum Unplayed {
+    Write,
+    NoMemory(Option<usize>),
+}
+
+impl From<PlayFault> for Unplayed {
+    ghost use Rattle.std.specs.Prelude.{◌≡◌};
+    ghost use Rattle.tkhost.specs.Output.{unasked};
+
+    ghost from_gives = { λ fault e. e ≡ unasked fault };
+
+    fn from(fault: PlayFault) -> Unplayed {
+        match fault {
+            PlayFault::Write => Unplayed::Write,
+            PlayFault::NoMemory => Unplayed::NoMemory(None),
+        }
     }
 }
 
@@ -170,41 +191,55 @@ fn sections<M: AliasService>(
     Ok(text)
 }
 
+/// Runs a session's applications in a host that they were added to. Where memory is refused it tells to whom.
+fn run_or_tell<M: AliasService>(host: &mut Host<M>, session: &Session) -> Result<(), Unplayed>
+    requires { (lists : List (List (List ℕ × M))) × Serve session.now.apps lists × (host.old.held ≡ held_after M.answer (adding session.now.apps lists)) }
+    ensures history { (calls : List (Call M)) → host.old.held ≡ held_after M.answer calls
+        → OnOk result (host.new.held ≡ held_after M.answer (calls ++ Start ∷ (lining session.now.events ++ End session.now.end ∷ []))) }
+    ensures memory { IfErr result (λ why. why ≡ Unplayed.NoMemory host.new.asker) }
+{
+    match run_through(host, session) {
+        Ok(()) => Ok(()),
+        Err(_) => Err(Unplayed::NoMemory(host.asker())),
+    }
+}
+
 fn text_of<M: AliasService>(
     alloc: Global,
     session: &Session,
     aliases: Vec<Aliases<M>>,
     slice: u64,
-) -> Result<Vec<u8>, PlayFault>
+) -> Result<Vec<u8>, Unplayed>
     requires slice { 1 ≤ slice }
     requires serve { Serve session.now.apps aliases.items }
     ensures text { IfOk result (λ text. text.items ≡ sections_of M.answer session.now aliases.items) }
-    ensures memory { IfErr result (λ fault. fault ≡ PlayFault.NoMemory) }
+    ensures memory { IfErr result (λ why. why ≢ Unplayed.Write) }
 {
     let mut host = filled(alloc, session, aliases, slice)?;
-    run_through(&mut host, session)?;
-    sections(alloc, &host, session.apps().len())
+    run_or_tell(&mut host, session)?;
+    let text = sections(alloc, &host, session.apps().len())?;
+    Ok(text)
 }
 
-/// The sections of a session's applications, written one after another once all have come to the end.
-fn write_sections<M: AliasService, W: Write>(
+/// Plays a session as [`play`] does, and where memory was refused while applications ran tells the slot of the one that asked for it.
+pub fn play_or_tell<M: AliasService, W: Write>(
     alloc: Global,
     session: &Session,
     aliases: Vec<Aliases<M>>,
     slice: u64,
     writer: &mut W,
-) -> Result<(), PlayFault>
+) -> Result<(), Unplayed>
     requires slice { 1 ≤ slice }
     requires serve { Serve session.now.apps aliases.items }
     ensures sections { OnOk result (Appends (W.contents writer.old) (W.contents writer.new) (sections_of M.answer session.now aliases.items)) }
-    ensures write { result ≡ Err PlayFault.Write
+    ensures write { result ≡ Err Unplayed.Write
         → AppendsFront (W.contents writer.old) (W.contents writer.new) (sections_of M.answer session.now aliases.items) }
-    ensures no_memory { result ≡ Err PlayFault.NoMemory → writer.new ≡ writer.old }
+    ensures no_memory { (asker : Option ℕ) → result ≡ Err (Unplayed.NoMemory asker) → writer.new ≡ writer.old }
 {
     let text = text_of(alloc, session, aliases, slice)?;
     match write_whole(writer, text.as_slice()) {
         Ok(()) => Ok(()),
-        Err(_) => Err(PlayFault::Write),
+        Err(_) => Err(Unplayed::Write),
     }
 }
 
@@ -232,5 +267,9 @@ pub fn play<M: AliasService, W: Write>(
         → AppendsFront (W.contents writer.old) (W.contents writer.new) (sections_of M.answer session.now aliases.items) }
     ensures no_memory { result ≡ Err PlayFault.NoMemory → writer.new ≡ writer.old }
 {
-    write_sections(alloc, session, aliases, slice, writer)
+    match play_or_tell(alloc, session, aliases, slice, writer) {
+        Ok(()) => Ok(()),
+        Err(Unplayed::Write) => Err(PlayFault::Write),
+        Err(Unplayed::NoMemory(_)) => Err(PlayFault::NoMemory),
+    }
 }

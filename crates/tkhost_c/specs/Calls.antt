@@ -21,7 +21,7 @@ use Rattle.tk_base.specs.Names.{key_named}
 use Rattle.tk_route.specs.Lines.{Line, at, values}
 use Rattle.tk_route.specs.Refusals.{IsFirst, NoneApplies}
 use Rattle.tk_route.specs.declared.fault.LineFault.{LineFault}
-use Rattle.tk_route.specs.declared.fault.LineFault.TheVariants.{BadLine, Started}
+use Rattle.tk_route.specs.declared.fault.LineFault.TheVariants.{BadLine, NoApp, Started}
 use Rattle.tk_route.specs.declared.line.HostLine.{HostLine}
 use Rattle.tk_session.specs.declared.session.AppBlock.{AppBlock}
 use Rattle.tk_session.specs.declared.session.EventLine.{EventLine}
@@ -48,7 +48,7 @@ On (Some old) new number Comes = (kept : Keeps) × (new ≡ Some kept) × (answe
 
 -- a new host, with no applications yet
 abbrev pub fresh : ℕ → Keeps
-fresh slice = record { host = record { held = held_after answer_by []; slice = slice; turns = [] }; apps = []; waiting = [] }
+fresh slice = record { host = record { held = held_after answer_by []; slice = slice; turns = []; asker = None }; apps = []; waiting = [] }
 
 -- making a host: refused where the handle has one (66) and where the slice is 0 (36)
 abbrev pub IsMade : ℕ → Option Keeps → Option Keeps → Result (Unit {0}) Refusal → Type 0
@@ -236,6 +236,12 @@ TellsTurns before after told old new (Ok done) =
 TellsTurns before after told old new (Err TooSmall) =
     (new ≡ old) × (length before < length old.host.turns) × (after ≡ before) × (told ≡ length old.host.turns)
 TellsTurns before after told old new (Err refusal) = ⊥
+
+-- The slot of the application that asked for the memory that was refused. Where none did it is no application (37), and nothing is told.
+abbrev pub TellsAsker : ℕ → ℕ → Keeps → Keeps → Result (Unit {0}) Refusal → Type 0
+TellsAsker before after old new (Ok done) = (new ≡ old) × (old.host.asker ≡ Some after)
+TellsAsker before after old new (Err (Fault fault)) = (new ≡ old) × (fault ≡ NoApp) × (old.host.asker ≡ None) × (after ≡ before)
+TellsAsker before after old new (Err refusal) = ⊥
 
 -- freeing
 abbrev pub IsFreed : Option Keeps → Option Keeps → Result (Unit {0}) Refusal → Type 0

@@ -1,7 +1,7 @@
 //! What is told of a host, into buffers.
 ghost use Rattle.std.specs.Prelude.{◌≡◌, ◌≤◌, ◌++◌, Result, None, drop, length, map};
 ghost use Rattle.tkhost_c.specs.declared.refusal.Refusal.{Refusal as RefusalOf};
-ghost use Rattle.tkhost_c.specs.Calls.{On, TellsSection, TellsTurns, Told, turn_of};
+ghost use Rattle.tkhost_c.specs.Calls.{On, TellsAsker, TellsSection, TellsTurns, Told, turn_of};
 ghost use Rattle.tkhost_c.specs.Numbers.{number_for, words_of};
 
 use crate::kept::Kept;
@@ -9,7 +9,7 @@ use crate::place::Place;
 use crate::refusal::{Refusal, number_for, words_of};
 use crate::taking::{put, take};
 use std::alloc::Global;
-use tk_host::Turn;
+use tk_host::{LineFault, Turn};
 
 /// A turn of an application: whose it was, and how many steps it took.
 #[repr(C)]
@@ -72,6 +72,19 @@ fn tell_turns(kept: &Kept, turns: &mut [HostTurn], told: &mut usize) -> Result<(
     Ok(())
 }
 
+/// Tells the slot of the application that asked for the memory that was refused.
+fn tell_asker(kept: &Kept, slot: &mut usize) -> Result<(), Refusal>
+    ensures { TellsAsker slot.old slot.new kept.now kept.now result }
+{
+    match kept.host.asker() {
+        Some(asker) => {
+            *slot = asker;
+            Ok(())
+        }
+        None => Err(Refusal::Fault(LineFault::NoApp)),
+    }
+}
+
 /// Tells the section of the application in a slot into a buffer.
 #[unsafe(no_mangle)]
 pub extern "C" fn tkhost_section(
@@ -108,6 +121,22 @@ pub extern "C" fn tkhost_turns(
     match take(host, alloc) {
         Some(kept) => {
             let answer = tell_turns(&kept, turns, told);
+            put(host, kept);
+            number_for(answer)
+        }
+        None => number_for(Err(Refusal::NoHost)),
+    }
+}
+
+/// Tells the slot of the application that asked for the memory that was refused.
+#[unsafe(no_mangle)]
+pub extern "C" fn tkhost_asker(alloc: Global, host: &mut Place, slot: &mut usize) -> u32
+    ensures asker { On host.old.kept host.new.kept result (TellsAsker slot.old slot.new) }
+    ensures none { host.old.kept ≡ None → slot.new ≡ slot.old }
+{
+    match take(host, alloc) {
+        Some(kept) => {
+            let answer = tell_asker(&kept, slot);
             put(host, kept);
             number_for(answer)
         }

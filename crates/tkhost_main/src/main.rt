@@ -4,7 +4,7 @@
 use std::env::{Env, FillError};
 use std::process::ExitCode;
 use tcl_text::Text;
-use tkhost::{Outcome, ServiceKind, run};
+use tkhost::{Ending, Outcome, ServiceKind, run};
 
 /// Whether the program was given an argument.
 fn has_argument(rt: &impl Env) -> bool {
@@ -12,8 +12,8 @@ fn has_argument(rt: &impl Env) -> bool {
 }
 
 fn main(rt: HostRuntime) -> ExitCode {
-    let outcome = if has_argument(&rt) {
-        Outcome::Usage
+    let ending = if has_argument(&rt) {
+        Ending::of(Outcome::Usage)
     } else {
         let alloc = rt.alloc();
         run(
@@ -26,6 +26,6 @@ fn main(rt: HostRuntime) -> ExitCode {
         )
     };
     // where standard error takes nothing, the status alone tells
-    let _ = outcome.write_to(&mut rt.stderr());
-    ExitCode::from(outcome.status())
+    let _ = ending.write_to(&mut rt.stderr());
+    ExitCode::from(ending.outcome.status())
 }

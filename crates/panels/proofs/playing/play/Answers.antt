@@ -4,7 +4,7 @@ use Rattle.tk_alias.specs.Services.{answer_of}
 use Rattle.tk_alias.specs.declared.service.Service.{Service}
 use Rattle.tk_session.specs.Session.{Plan}
 use Rattle.tkhost.specs.Play.{services_in}
-use Rattle.panels.proofs.Refused.{refused_among, refused_last}
+use Rattle.panels.proofs.Refused.{memory_refused, refused_among, refused_last}
 use Rattle.panels.proofs.playing.play.Goals as goal
 
 pub returns-in_err-course-clause-refused : goal.returns-in_err-course-clause-refused
@@ -25,3 +25,9 @@ returns-in_err-text-clause-refused g c =
     (refused_last (λ (service : Service). answer_of service.kind service.config) c.args.bench.now (map services_in c.args.bench.now.panels.items)
     c.in_ok-begun.begun.apps c.in_ok-aliases.aliases.items c.as_slice.result.now c.in_err-text.field-0.0 apps lists c.in_ok-begun.ensures.sayable c.in_ok-course.ensures.taken
     (c.as_slice.ensures.value ∙ c.in_ok-course.ensures.ends.events_are) c.in_err-text.ensures.refused)
+
+pub returns-in_err-output-clause-refused : goal.returns-in_err-output-clause-refused
+returns-in_err-output-clause-refused g c =
+    let p = err_from_is_err_and c.from_residual-in_err-output.result c.from_residual-in_err-output.ensures.1 in
+    rw (p.1, p.2)
+    (memory_refused (λ (service : Service). answer_of service.kind service.config) c.args.bench.now (map services_in c.args.bench.now.panels.items) _ c.in_err-output.ensures.memory)

@@ -1,13 +1,15 @@
-use Rattle.std.proofs.Common.{refl, sym, ap, ◌∙◌, subst}
+use Rattle.std.proofs.Common.{length, refl, sym, ap, ◌∙◌, subst}
+use Rattle.std.proofs.lemmas.List.{length-map}
 use Rattle.tk_app.specs.Stages.{first_moment_due}
 use Rattle.tk_app.specs.Due.{IsPast}
 use Rattle.tk_app.specs.Application.{next_due}
 use Rattle.tk_app.specs.MomentsByJob.{settled}
 use Rattle.tk_app.specs.Turns.{Applications}
-use Rattle.tk_app.proofs.Views.{on_err}
+use Rattle.tk_host.specs.AloneByJob.{passed}
+use Rattle.tk_host.specs.Slots.{begun_at}
 use Rattle.tk_host.specs.Turns.{applications}
 use Rattle.tk_host.proofs.Counts.{counted, counts_both, counts_same}
-use Rattle.tk_host.proofs.Cut.{cut_on_the_way, cut_way}
+use Rattle.tk_host.proofs.Cut.{cut_on_the_way, cut_way, handed_on, there_as, there_same}
 use Rattle.tk_host.proofs.Ways.{way_brought, way_lighter, way_on, way_told}
 use Rattle.tk_host.proofs.stages.advance.Goals as goal
 
@@ -30,6 +32,7 @@ returns-then-due-target g c =
       ahead = way.ahead;
       turns = way_told g.M.AliasMeaning.answer c.args.slice c.args.target c.args.shared.now here way past;
       cut = tt;
+      there = tt;
       counts = c.moments.invariant.counts;
     }
 
@@ -63,20 +66,35 @@ returns g c =
       ahead = way.ahead;
       turns = way_told g.M.AliasMeaning.answer c.args.slice c.args.target c.args.shared.now here way past;
       cut = tt;
+      there = tt;
       counts = c.moments.invariant.counts;
     }
 
 pub returns-in_err-begin_all-clause-cut : goal.returns-in_err-begin_all-clause-cut
 returns-in_err-begin_all-clause-cut g c =
-    on_err _ _
-    (cut_way g.M.AliasMeaning.answer c.args.slice c.args.target c.args.shared.now c.moments.shared c.begin_all.new.shared.turns c.moments.invariant.way
+    handed_on c.from_residual.result _ _ c.from_residual.ensures.1
+    (cut_way g.M.AliasMeaning.answer c.args.slice _ c.args.target c.args.shared.now c.moments.shared c.begin_all.new.shared.turns c.moments.invariant.way
     (c.in_err-begin_all.ensures.turns ∙ ap (λ (h : Applications _). h.turns) c.set_moment.ensures))
 
 pub returns-in_err-stage-clause-cut : goal.returns-in_err-stage-clause-cut
 returns-in_err-stage-clause-cut g c =
-    on_err _ _
-    (cut_on_the_way g.M.AliasMeaning.answer c.args.slice c.args.target c.in-Some.due c.args.shared.now c.moments.shared c.set_moment.new.self c.begin_all.new.shared c.stage.new.shared.turns (sym c.in-Some.ensures)
+    handed_on c.from_residual-in_err-stage.result _ _ c.from_residual-in_err-stage.ensures.1
+    (cut_on_the_way g.M.AliasMeaning.answer c.args.slice _ c.args.target c.in-Some.due c.args.shared.now c.moments.shared c.set_moment.new.self c.begin_all.new.shared c.stage.new.shared.turns (sym c.in-Some.ensures)
     c.if-due-target.false c.moments.invariant.way c.set_moment.ensures c.in_ok-begin_all.ensures.begun c.in_err-stage.ensures.cut)
+
+pub returns-in_err-begin_all-clause-there : goal.returns-in_err-begin_all-clause-there
+returns-in_err-begin_all-clause-there g c =
+    let there = there_as _ _ _ (ap (λ (h : Applications _). length h.parts) c.set_moment.ensures) c.in_err-begin_all.ensures.there in
+    handed_on c.from_residual.result _ _ c.from_residual.ensures.1
+    (there_same (passed g.M.AliasMeaning.answer c.args.target) _ c.moments.shared.parts c.args.shared.now.parts c.moments.invariant.way.brought there)
+
+pub returns-in_err-stage-clause-there : goal.returns-in_err-stage-clause-there
+returns-in_err-stage-clause-there g c =
+    let before = c.set_moment.new.self in
+    let begun = there_as _ _ _ (ap (λ (h : Applications _). length h.parts) c.in_ok-begin_all.ensures.begun ∙ length-map before.parts (begun_at c.in-Some.due)) c.in_err-stage.ensures.there in
+    let there = there_as _ _ _ (ap (λ (h : Applications _). length h.parts) c.set_moment.ensures) begun in
+    handed_on c.from_residual-in_err-stage.result _ _ c.from_residual-in_err-stage.ensures.1
+    (there_same (passed g.M.AliasMeaning.answer c.args.target) _ c.moments.shared.parts c.args.shared.now.parts c.moments.invariant.way.brought there)
 
 pub returns-in_err-begin_all-clause-counts : goal.returns-in_err-begin_all-clause-counts
 returns-in_err-begin_all-clause-counts g c =

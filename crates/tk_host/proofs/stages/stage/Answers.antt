@@ -2,10 +2,9 @@ use Rattle.std.proofs.Common.{◌≡◌, ◌++◌, ◌-◌, ℕ, List, [], map, 
 use Rattle.tk_app.specs.Rounds.{round, turns_of}
 use Rattle.tk_app.proofs.Rounds.{turns_more, turns_none}
 use Rattle.tk_app.specs.Part.{Part, needs, stage_done}
-use Rattle.tk_app.proofs.Views.{on_err}
 use Rattle.tk_host.specs.Cut.{IsCutShort}
 use Rattle.tk_host.proofs.Counts.{counts_both}
-use Rattle.tk_host.proofs.Cut.{cut_stage}
+use Rattle.tk_host.proofs.Cut.{cut_stage, handed_on, there_done}
 use Rattle.tk_host.proofs.Slots.{none_needed}
 use Rattle.tk_host.proofs.stages.stage.Goals as goal
 
@@ -46,9 +45,17 @@ returns-in_err-more-clause-cut g c =
     let m : ℕ = c.args.shared.now.moment in
     let needed_by : ℕ → List (Part _) → List ℕ = λ n ps. map (needs g.M.AliasMeaning.answer n) ps in
     let told = c.run_round.new.shared.turns in
-    on_err _ _
-    (cut_stage c.args.slice (needed_by m loop.shared.parts) loop.shared.turns (c.args.shared.now.turns ++ turns_of c.args.slice (needed_by m c.args.shared.now.parts)) told (omega arith) loop.invariant.turns
-    (subst (λ n. IsCutShort c.args.slice (loop.shared.turns ++ round c.args.slice (needed_by n loop.shared.parts) 0) told) loop.invariant.moment c.in_err-more.ensures.cut))
+    let slot : ℕ = c.in_err-more.field-0.0.slot in
+    handed_on c.from_residual.result _ _ c.from_residual.ensures.1
+    (cut_stage c.args.slice slot (needed_by m loop.shared.parts) loop.shared.turns (c.args.shared.now.turns ++ turns_of c.args.slice (needed_by m c.args.shared.now.parts)) told (omega arith) loop.invariant.turns
+    (subst (λ n. IsCutShort c.args.slice slot (loop.shared.turns ++ round c.args.slice (needed_by n loop.shared.parts) 0) told) loop.invariant.moment c.in_err-more.ensures.cut))
+
+pub returns-in_err-more-clause-there : goal.returns-in_err-more-clause-there
+returns-in_err-more-clause-there g c =
+    let loop = c.rounds in
+    let m : ℕ = c.args.shared.now.moment in
+    handed_on c.from_residual.result _ _ c.from_residual.ensures.1
+    (there_done (stage_done g.M.AliasMeaning.answer m) _ loop.shared.parts c.args.shared.now.parts loop.invariant.done c.in_err-more.ensures.there)
 
 pub returns-in_err-more-clause-counts : goal.returns-in_err-more-clause-counts
 returns-in_err-more-clause-counts g c =

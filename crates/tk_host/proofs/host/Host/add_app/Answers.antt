@@ -56,7 +56,7 @@ returns-clause-added g c =
     let app = given c.args.name c.args.rect c.args.script c.args.budget c.args.aliases in
     let inside = c.self.inside in
     let adding = adding_if_not_refused c.args.self.now.held.phase none.0 none.1.0 none.1.1.0 in
-    added_is g.M.AliasMeaning.answer inside.phase inside.rects.items c.push.new.self.items inside.router inside.slice inside.shared c.add.new.self c.args.self.now app
+    added_is g.M.AliasMeaning.answer inside.phase inside.rects.items c.push.new.self.items inside.router inside.asker inside.slice inside.shared c.add.new.self c.args.self.now app
     (ap (λ (h : Hosted _). h.held.phase) c.self.view_is ∙ adding) c.self.view_is
     (c.in-Ok.ensures.items ∙ ap (λ rects. rects ++ rect_of app ∷ []) c.in_ok-reserve.ensures.items) c.in_ok-add.ensures.added
 

@@ -1,4 +1,4 @@
-use Rattle.std.proofs.Common.{◌≡◌, ◌≤◌, arith, sym, ap, ◌∙◌, subst}
+use Rattle.std.proofs.Common.{◌≡◌, ◌≤◌, arith, refl, sym, ap, ◌∙◌, subst}
 use Rattle.std.proofs.lemmas.Result.{err_from_is_err_and}
 use Rattle.tk_app.specs.Stages.{first_moment_due}
 use Rattle.tk_app.specs.Due.{IsPast}
@@ -10,7 +10,7 @@ use Rattle.tk_host.specs.Held.{Hosted}
 use Rattle.tk_host.specs.Ready.{AllRest}
 use Rattle.tk_host.specs.Turns.{applications}
 use Rattle.tk_host.proofs.Counts.{tells_all}
-use Rattle.tk_host.proofs.Cut.{cut_by, cut_going}
+use Rattle.tk_host.proofs.Cut.{cut_going, there_cleared}
 use Rattle.tk_host.proofs.History.{not_back, reached_if_not_refused}
 use Rattle.tk_host.proofs.Kept.{gone_is, ready_gone, routed_gone}
 use Rattle.tk_host.proofs.host.Host.go_to.Goals as goal
@@ -38,7 +38,7 @@ advance-requires g c =
 
 pub invariant_of-self-2 : goal.invariant_of-self-2
 invariant_of-self-2 g c =
-    let gone = c.in_ok-advance.ensures in
+    let gone = c.in-Ok.ensures in
     let after = c.advance.new.shared in
     let none = c.in_ok-may_go_to.ensures.answer in
     let from = reached_if_not_refused c.args.self.now.held.phase c.requires.begun none.0 none.1.0 in
@@ -57,18 +57,26 @@ returns-clause-gone g c =
     let from = reached_if_not_refused phase c.requires.begun none.0 none.1.0 in
     let there : inside.phase ≡ Reached from.0 = ap (λ (h : Hosted _). h.held.phase) c.self.view_is ∙ from.1 in
     let ready = c.self.invariant.1.reached from.0 there in
-    let gone = c.in_ok-advance.ensures in
-    gone_is g.M.AliasMeaning.answer inside.phase c.args.phase from.0 c.args.moment inside.rects.items inside.router inside.slice inside.shared c.clear_turns.new.self c.advance.new.shared c.args.self.now there c.requires.there c.self.view_is ready.1 c.clear_turns.ensures
+    let gone = c.in-Ok.ensures in
+    gone_is g.M.AliasMeaning.answer inside.phase c.args.phase from.0 c.args.moment inside.rects.items inside.router inside.asker inside.slice inside.shared c.clear_turns.new.self c.advance.new.shared c.args.self.now there c.requires.there c.self.view_is ready.1 c.clear_turns.ensures
     gone.brought gone.rest gone.turns
 
-pub returns-in_err-advance-clause-cut : goal.returns-in_err-advance-clause-cut
-returns-in_err-advance-clause-cut g c =
+pub returns-in-Err-clause-cut : goal.returns-in-Err-clause-cut
+returns-in-Err-clause-cut g c =
     let inside = c.self.inside in
     let old = c.args.self.now in
-    cut_by _ _ old _
-    (cut_going g.M.AliasMeaning.answer inside.phase c.args.phase c.args.moment inside.rects.items inside.router inside.slice inside.shared c.clear_turns.new.self old c.advance.new.shared.turns c.self.view_is
-    c.clear_turns.ensures c.in_err-advance.ensures.cut)
-    (tells_all inside.shared c.clear_turns.new.self c.advance.new.shared old.held.parts c.clear_turns.ensures (ap (λ (h : Hosted _). h.held.parts) c.self.view_is) c.in_err-advance.ensures.counts)
+    let slot = c.in-Err.unserved.slot in
+    let cleared = c.clear_turns.new.self in
+    let parts = ap (λ (h : Hosted _). h.held.parts) c.self.view_is in (
+      record {
+        slot = slot;
+        asked = refl;
+        there = there_cleared slot inside.shared cleared old.held.parts c.clear_turns.ensures parts c.in-Err.ensures.there;
+        cut = cut_going g.M.AliasMeaning.answer inside.phase c.args.phase c.args.moment inside.rects.items inside.router inside.asker inside.slice slot inside.shared cleared old c.advance.new.shared.turns c.self.view_is
+            c.clear_turns.ensures c.in-Err.ensures.cut;
+      },
+      tells_all inside.shared cleared c.advance.new.shared old.held.parts c.clear_turns.ensures parts c.in-Err.ensures.counts,
+    )
 
 pub returns-in_err-may_go_to-clause-cut : goal.returns-in_err-may_go_to-clause-cut
 returns-in_err-may_go_to-clause-cut g c =

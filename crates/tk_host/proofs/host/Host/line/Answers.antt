@@ -21,7 +21,7 @@ returns-in_err-may_take-clause-cut g c = λ calls held.
     let p = err_from_is_err_and c.from_residual.result c.from_residual.ensures.1 in rw (p.1, p.2) tt
 
 pub returns-in_err-tested_line-clause-cut_short : goal.returns-in_err-tested_line-clause-cut_short
-returns-in_err-tested_line-clause-cut_short g c = λ first earlier known. cut_short_by _ _ _ _ (c.in_err-tested_line.ensures.cut_short first earlier known)
+returns-in_err-tested_line-clause-cut_short g c = λ first earlier known. cut_short_by _ _ c.args.self.now _ (c.in_err-tested_line.ensures.cut_short first earlier known)
 
 pub returns-in_err-may_take-clause-cut_short : goal.returns-in_err-may_take-clause-cut_short
 returns-in_err-may_take-clause-cut_short g c = λ first earlier known.

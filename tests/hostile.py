@@ -5,7 +5,7 @@ them stands.
 The program is that which the gate left in crates/tkhost_main/out. In each session a panel `good` lies beside the attacker, whose section has to be
 the same in all.
 
-- tests/hostile/NAME.session: what each may cost and what has to come of it stands in tests/hostile/hostile.table; and some of them in 64 MiB, which have to end
+- tests/hostile/NAME.session: what each may cost and what has to come of it stands in tests/hostile/hostile.table; and some of them in 40 MiB, which have to end
   with status 4 and write nothing;
 - made here: `destroy .` inside every kind of callback, each command renamed away, and 200 and 201 of whatever nests;
 - made of those in tests/hostile: cut at bytes, with bytes changed, with lines swapped, with fields out of their ranges and with bytes that are no UTF-8;
@@ -102,7 +102,7 @@ def corpus():
         yield name, lambda name=name: Run((CORPUS / f"{name}.session").read_bytes(), rows[name][0]).played(rows[name][1])
     # (the lines find room while they are shown, and none where the section is made of them)
     for name, asker in (("lines-of-newlines", None), ("variables-of-the-longest", "bad"), ("procedures-of-brackets", "bad"), ("words-of-one-command", "bad")):
-        yield f"{name} in 64 MiB", lambda name=name, asker=asker: Run((CORPUS / f"{name}.session").read_bytes(), (30, 64)).starved(asker)
+        yield f"{name} in 40 MiB", lambda name=name, asker=asker: Run((CORPUS / f"{name}.session").read_bytes(), (30, 40)).starved(asker)
 
 
 # ---- made sessions

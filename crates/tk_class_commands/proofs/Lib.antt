@@ -1,1 +1,2 @@
 -- Lemmas of the proofs.
+pub mod OneWindow

@@ -4,6 +4,7 @@ pub mod Changes
 pub mod Commands
 pub mod Entries
 pub mod Listboxes
+pub mod Named
 pub mod Outcomes
 pub mod Requests
 pub mod Steps

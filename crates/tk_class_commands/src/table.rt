@@ -63,24 +63,22 @@ pub enum WordForm {
     Step,
 }
 
+fn command(kind: Kind, usage: &'static str, form: ClassForm) -> Option<ClassCommand>
+    ensures { result ≡ Some (record { usage = usage.now; kind = kind; form = form }) }
+{
+    Some(ClassCommand { usage, kind, form })
+}
+
 fn on_path(kind: Kind, usage: &'static str, form: PathForm) -> Option<ClassCommand>
     ensures { result ≡ Some (spec.on_path kind usage.now form) }
 {
-    Some(ClassCommand {
-        usage,
-        kind,
-        form: ClassForm::Path(form),
-    })
+    command(kind, usage, ClassForm::Path(form))
 }
 
 fn with_word(kind: Kind, usage: &'static str, form: WordForm) -> Option<ClassCommand>
     ensures { result ≡ Some (spec.with_word kind usage.now form) }
 {
-    Some(ClassCommand {
-        usage,
-        kind,
-        form: ClassForm::Word(form),
-    })
+    command(kind, usage, ClassForm::Word(form))
 }
 
 fn on_button(usage: &'static str, request: ButtonRequest) -> Option<ClassCommand>

@@ -1,5 +1,5 @@
 -- Meaning. The commands on windows, from the words behind their names.
-use Rattle.std.specs.Prelude.{ℕ, List, Option, Some, option_map, codes, if◌then◌else◌}
+use Rattle.std.specs.Prelude.{ℕ, Bool, false, List, [], ◌∷◌, Option, Some, option_map, codes, if◌then◌else◌}
 use Rattle.std.specs.Str.{bytes_eq}
 use Rattle.tcl_text.specs.Answers.{Answer}
 use Rattle.tcl_vars.specs.Store.{Store}
@@ -14,6 +14,11 @@ use Rattle.tk_window_commands.specs.Commands.{window_command_done, window_comman
 
 abbrev pub pack_told : List (List ℕ) → Windowing → Windowing × Answer
 pack_told words own = (let there = pack_words words own.tree own.packs in (record own { packs = there.0 }, there.1))
+
+-- whether the words behind `pack` are those of `pack propagate`
+abbrev pub asks_propagation : List (List ℕ) → Bool
+asks_propagation [] = false
+asks_propagation (word ∷ words) = bytes_eq word (codes "propagate")
 
 -- what is on the screen then, and the answer
 abbrev pub with_windowing : Panel → Store → Windowing × Answer → Done

@@ -80,6 +80,7 @@ fn bind(tables: &mut Tables, slot: usize, words: &[Text]) -> Result<Answer, Allo
 }
 
 /// The command `bindtags` (bindtags(n)).
+#[tactic(auto, using(tk_screen::proofs::KeptMarks::kept))]
 fn bindtags(
     alloc: Global,
     marked: &mut MarkedScreen,

@@ -1,6 +1,7 @@
 //! The commands that class bindings run.
 ghost use Rattle.std.specs.Prelude.{◌≡◌, IfOk};
 ghost use Rattle.tk_class_commands.specs.Commands as class_of;
+ghost use Rattle.tk_class_commands.specs.Named.{IsNumbered};
 ghost use Rattle.tk_class_commands.specs.Outcomes as outcomes_of;
 ghost use Rattle.tk_inputs.specs.Shared.{arrivals_of};
 ghost use Rattle.tk_inputs.specs.Shared as inputs_of;
@@ -9,9 +10,11 @@ ghost use Rattle.tk_commands.specs.Class as spec;
 ghost use Rattle.tk_commands.specs.Outcomes.{done, told};
 ghost use Rattle.tk_dispatch.specs.Queue as queue_of;
 ghost use Rattle.tk_screen.specs.Shared as screens;
+ghost use Rattle.tk_tree.specs.Shared as trees;
 
 use crate::dispatch::dispatch_selection;
 use crate::outcome::CommandOutcome;
+use crate::path::number_of;
 use std::alloc::{AllocError, Global};
 use tcl_text::Text;
 use tcl_vars::Scopes;
@@ -20,6 +23,7 @@ use tk_dispatch::EventQueue;
 use tk_inputs::Inputs;
 use tk_panel::Tables;
 use tk_screen::MarkedScreen;
+use tk_tree::Windows;
 
 /// What one does, from the words behind its name, at the moment.
 #[tactic(auto, unfolding(crate::specs::Class::class_told))]
@@ -65,6 +69,7 @@ fn class_command(
 }
 
 /// The same, on the screen with marks.
+#[tactic(auto, using(tk_screen::proofs::KeptMarks::kept))]
 fn shown_command(
     alloc: Global,
     marked: &mut MarkedScreen,
@@ -82,8 +87,8 @@ fn shown_command(
     ensures inputs { inputs_of.LeavesOthers slot inputs.old inputs.new }
     ensures queue { queue_of.LeavesOthers slot queue.old queue.new }
 {
-    marked.marks.forget(slot);
-    tk_class_commands::class_command_done(
+    let number = number_for(&marked.screen.windows, slot, words);
+    match tk_class_commands::class_command_done(
         alloc,
         &mut marked.screen,
         inputs,
@@ -93,7 +98,26 @@ fn shown_command(
         moment,
         command,
         words,
-    )
+    ) {
+        Ok(outcome) => {
+            marked.marks.touch(slot, number);
+            Ok(outcome)
+        }
+        Err(refused) => {
+            marked.marks.forget(slot);
+            Err(refused)
+        }
+    }
+}
+
+/// The number of the window whose path the first word is, if it is there.
+fn number_for(windows: &Windows, slot: usize, words: &[Text]) -> u64
+    ensures { IsNumbered result words.now (trees.own_of slot windows.now) }
+{
+    let Some((path, _)) = words.split_first() else {
+        return 0;
+    };
+    number_of(windows, slot, path)
 }
 
 /// What comes of a command for a class: a selection that was made is told at once.

@@ -1,5 +1,5 @@
 //! The commands on windows: those that make them, `winfo`, `wm` and `pack`.
-ghost use Rattle.std.specs.Prelude.{◌≡◌, IfOk};
+ghost use Rattle.std.specs.Prelude.{◌≡◌, false, IfOk};
 ghost use Rattle.tk_panel.specs.Shared.{LeavesOthers, panel_of};
 ghost use Rattle.tk_commands.specs.Outcomes.{done};
 ghost use Rattle.tk_commands.specs.Screen as spec;
@@ -91,6 +91,7 @@ fn window_command(
 }
 
 /// One that may change something.
+#[tactic(auto, using(tk_screen::proofs::KeptMarks::kept))]
 fn changing_command(
     alloc: Global,
     marked: &mut MarkedScreen,
@@ -117,8 +118,60 @@ fn pack(
     ensures own { IfOk result (λ answer. (screens.own_of slot marked.new, answer) ≡ spec.pack_told words.now (screens.own_of slot marked.old)) }
     ensures others { screens.LeavesOthers slot marked.old marked.new }
 {
+    if asks_propagation(words) {
+        pack_propagate(alloc, marked, slot, words)
+    } else {
+        pack_otherwise(alloc, marked, slot, words)
+    }
+}
+
+/// Whether the words are those of `pack propagate`.
+fn asks_propagation(words: &[Text]) -> bool
+    ensures { result ≡ spec.asks_propagation words.now }
+{
+    let Some((word, _)) = words.split_first() else {
+        return false;
+    };
+    word.as_str() == "propagate"
+}
+
+/// `pack propagate`, by which a window may come to ask for another size.
+#[tactic(auto, using(tk_screen::proofs::KeptMarks::kept))]
+fn pack_propagate(
+    alloc: Global,
+    marked: &mut MarkedScreen,
+    slot: usize,
+    words: &[Text],
+) -> Result<Answer, AllocError>
+    ensures own { IfOk result (λ answer. (screens.own_of slot marked.new, answer) ≡ spec.pack_told words.now (screens.own_of slot marked.old)) }
+    ensures others { screens.LeavesOthers slot marked.old marked.new }
+{
     marked.marks.forget(slot);
     pack_windows(alloc, &mut marked.screen, slot, words)
+}
+
+/// The other forms, by which other windows may be packed, or packed otherwise, and nothing else changes.
+#[tactic(auto, using(tk_screen::proofs::KeptMarks::kept))]
+fn pack_otherwise(
+    alloc: Global,
+    marked: &mut MarkedScreen,
+    slot: usize,
+    words: &[Text],
+) -> Result<Answer, AllocError>
+    requires { spec.asks_propagation words.now ≡ false }
+    ensures own { IfOk result (λ answer. (screens.own_of slot marked.new, answer) ≡ spec.pack_told words.now (screens.own_of slot marked.old)) }
+    ensures others { screens.LeavesOthers slot marked.old marked.new }
+{
+    match pack_windows(alloc, &mut marked.screen, slot, words) {
+        Ok(answer) => {
+            marked.marks.repack(slot);
+            Ok(answer)
+        }
+        Err(refused) => {
+            marked.marks.forget(slot);
+            Err(refused)
+        }
+    }
 }
 
 fn pack_windows(

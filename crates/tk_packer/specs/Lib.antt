@@ -11,4 +11,5 @@ pub mod Loops
 pub mod Packs
 pub mod Parcels
 pub mod Shared
+pub mod Standing
 pub mod Tables

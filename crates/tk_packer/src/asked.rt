@@ -63,7 +63,7 @@ fn sized(sizes: &HashMap<u64, (u32, u32)>, packed: &Packed) -> Request
 
 /// What a window asks for that has slaves with these requests.
 #[tactic(auto, unfolding(crate::specs::Asked::size_asked))]
-fn size_asked(shape: &Shape, requests: &[Request]) -> (u32, u32)
+pub fn size_asked(shape: &Shape, requests: &[Request]) -> (u32, u32)
     ensures { result ≡ size_asked shape.now requests.now }
 {
     match requests {

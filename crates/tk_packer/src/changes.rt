@@ -33,7 +33,7 @@ pub fn changes_of(
 }
 
 /// Puts behind a list what becomes of a window that gets this place.
-fn tell(
+pub fn tell(
     changes: &mut Vec<PlaceChange>,
     shape: &Shape,
     place: Option<Rect>,

@@ -121,7 +121,7 @@ fn arrange_slaves(
 }
 
 /// The room inside a border.
-fn cavity_of(rect: Rect, border: u32) -> (u32, u32)
+pub fn cavity_of(rect: Rect, border: u32) -> (u32, u32)
     ensures { result ≡ cavity_of rect border }
 {
     (
@@ -163,7 +163,7 @@ fn give_one(
     Ok(())
 }
 
-fn counted_outside(border: u32, rect: Rect) -> Rect
+pub fn counted_outside(border: u32, rect: Rect) -> Rect
     requires { (rect.x + border < 2 ^ 32) × (rect.y + border < 2 ^ 32) }
     ensures { result ≡ counted_outside border rect }
 {

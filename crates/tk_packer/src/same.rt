@@ -1,7 +1,7 @@
 //! Whether requests are the same.
 ghost use Rattle.std.specs.Prelude.{◌≡◌, ◌↔◌, IsTrue};
 
-use crate::{Anchor, Fill, Pads, Request, Side};
+use crate::{Anchor, Fill, Packed, Pads, Request, Side};
 
 /// Whether two lists of requests are the same.
 pub fn are_same(one: &[Request], other: &[Request]) -> bool
@@ -16,6 +16,15 @@ pub fn are_same(one: &[Request], other: &[Request]) -> bool
         }
     }
     true
+}
+
+/// Whether a window is packed as another one.
+pub fn is_same_packed(one: &Packed, other: &Packed) -> bool
+    ensures { IsTrue result ↔ (one.now ≡ other.now) }
+{
+    one.master == other.master
+        && one.number == other.number
+        && is_same(&one.request, &other.request)
 }
 
 fn is_same(one: &Request, other: &Request) -> bool

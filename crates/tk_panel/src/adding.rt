@@ -41,6 +41,7 @@ pub fn add(
 }
 
 /// An application of which nothing is on the screen is shown.
+#[tactic(auto, using(tk_screen::proofs::KeptMarks::kept))]
 fn show(
     alloc: Global,
     marked: &mut MarkedScreen,

@@ -49,6 +49,7 @@ fn mark_all(windows: &mut Windows, slot: usize, numbers: &[u64])
 }
 
 /// So are these, on the screen.
+#[tactic(auto, using(tk_screen::proofs::KeptMarks::kept))]
 fn mark_shown(marked: &mut MarkedScreen, slot: usize, numbers: &[u64])
     ensures own { screens.own_of slot marked.new ≡ all_dying_in numbers.now (screens.own_of slot marked.old) }
     ensures others { screens.LeavesOthers slot marked.old marked.new }

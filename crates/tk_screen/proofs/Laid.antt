@@ -134,7 +134,7 @@ others_stay m (shape ∷ shapes) (place ∷ places) own none =
 still_read : (own new : Tree) (shape : Shape) → window_at shape.number new ≡ window_at shape.number own → IsRead own shape → IsRead new shape
 still_read own new shape same read = record { window = read.window; there = same ∙ read.there; rectangle = read.rectangle; mapped = read.mapped }
 
-number_laid : (shape : Shape) (place : Option Rect) → (laid shape place).number ≡ shape.number
+pub number_laid : (shape : Shape) (place : Option Rect) → (laid shape place).number ≡ shape.number
 number_laid shape None = refl
 number_laid shape (Some rect) = refl
 

@@ -1,11 +1,16 @@
 -- Lemmas.
+pub mod Alike
 pub mod Apart
 mod Escapes
+pub mod KeptMarks
+pub mod KeptPlaces
 pub mod Laid
 mod Listed
+pub mod Looking
+pub mod MarkSteps
 pub mod Placed
+pub mod Repacking
 pub mod Rows
-mod SameSizes
-pub mod Settled
 pub mod There
+pub mod Touching
 pub mod Twice

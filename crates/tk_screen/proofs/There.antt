@@ -80,14 +80,10 @@ module _ (own : Windowing) (store : Store) where
   due_there places = changes_there own.tree (shapes own store) places (all_there (pre_order own.tree))
 
 -- ── a layout written ──
-pub there_by : (changes items : List PlaceChange) (own : Windowing) (store : Store) (tree : Tree) → changes ≡ items → items ≡ changes_due own store → tree ≡ own.tree → AreThere changes tree
+pub there_by : (changes items : List PlaceChange) (own : Windowing) (store : Store) → changes ≡ items → items ≡ changes_due own store → AreThere changes own.tree
 unfolding changes_due
-there_by changes items own store tree same is tree_is =
-    subst (λ t. AreThere changes t) (sym tree_is) (subst (λ cs. AreThere cs own.tree) (sym (same ∙ is)) (due_there own store _))
+there_by changes items own store same is = subst (λ cs. AreThere cs own.tree) (sym (same ∙ is)) (due_there own store _)
 
-pub laid_by : (own mid : Windowing) (tree : Tree) (changes : List PlaceChange) (store : Store) → mid ≡ own → changes ≡ changes_due own store → tree ≡ with_changes changes mid.tree → record mid { tree = tree } ≡ laid_out_windowing own store
+pub laid_by : (own : Windowing) (tree : Tree) (changes : List PlaceChange) (store : Store) → changes ≡ changes_due own store → tree ≡ with_changes changes own.tree → record own { tree = tree } ≡ laid_out_windowing own store
 unfolding laid_out_windowing
-laid_by own mid tree changes store same is tree_is =
-    let put : Windowing → Tree → Windowing = λ o t. record o { tree = t } in
-    let change : Windowing → Windowing = λ o. put o (with_changes (changes_due own store) o.tree) in
-    ap (put mid) (tree_is ∙ ap (λ cs. with_changes cs mid.tree) is) ∙ ap change same
+laid_by own tree changes store is tree_is = ap (λ (t : Tree). record own { tree = t }) (tree_is ∙ ap (λ cs. with_changes cs own.tree) is)

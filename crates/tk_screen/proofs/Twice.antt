@@ -255,7 +255,16 @@ module _ (own : Windowing) (store : Store) (sound : IsSound own.tree) where
       (read new store)
       (all_laid own.tree before places (read own store) (apart own store sound))
 
+  pub laid_seen : shapes (laid_out_windowing own store) store ≡ laid_out_shapes (shapes own store) (layout (size_of own) own.packs.packs (shapes own store))
+  unfolding changes_due laid_out_windowing before places
+  laid_seen = seen_after
+
   pub laid_twice : changes_due (laid_out_windowing own store) store ≡ []
   unfolding changes_due laid_out_windowing before places
   laid_twice =
       ap (λ (ss : List Shape). changes_of ss (layout (size_of own) own.packs.packs ss)) seen_after ∙ laid_out_twice (size_of own) own.packs.packs before
+
+-- a layout that changes nothing
+pub nothing_laid : (own : Windowing) (store : Store) → changes_due own store ≡ [] → laid_out_windowing own store ≡ own
+unfolding laid_out_windowing with_changes
+nothing_laid own store laid = ap (λ changes. record own { tree = with_changes changes own.tree }) laid

@@ -8,9 +8,10 @@ pub mod Own
 pub mod Placing
 pub mod Reading
 pub mod Reads
-pub mod Settled
+pub mod Seen
 pub mod Shapes
 pub mod Shared
 pub mod Timers
+pub mod Touch
 pub mod Tree
 pub mod Widgets

@@ -1,37 +1,26 @@
--- Steps. The variables that windows show, with the texts that they had and the sizes that were asked for then.
-use Rattle.std.specs.Prelude.{ℕ, Bool, true, false, ◌==◌, ◌&&◌, ◌||◌, List, Option, None, Some, option_map, option_and_then}
-use Rattle.std.specs.List.{filter_map, list_all}
+-- Steps. The variables that windows show, with the texts that they had.
+use Rattle.std.specs.Prelude.{◌≡◌, ◌≢◌, ◌⊎◌, ℕ, nat_eq, Bool, true, false, List, [], ◌∷◌, Option, None, Some, option_map, option_and_then}
+use Rattle.std.specs.Map.{lookup}
 use Rattle.std.specs.Result.{result_ok}
 use Rattle.std.specs.Str.{bytes_eq}
 use Rattle.tcl_vars.specs.Store.{Store, variable_in}
 use Rattle.tk_screen.specs.declared.reads.TextRead.{TextRead}
 use Rattle.tk_screen.specs.Own.{Windowing}
-use Rattle.tk_screen.specs.Shapes.{pre_order, variable_text}
-use Rattle.tk_screen.specs.Widgets.{OwnWidgets, widget_at}
+use Rattle.tk_screen.specs.Widgets.{widget_at}
 use Rattle.tk_widgets.specs.Commands.{variable_of}
 use Rattle.tk_widgets.specs.declared.widget.Widget.{Widget}
-use Rattle.tk_widgets.specs.Sizes.{requested}
 
--- a global variable with its text, and the size that the widget of a window asks for
-abbrev pub read_named : Store → ℕ → Widget → List ℕ → TextRead
-read_named store number widget name = record {
-  number = number;
-  name = name;
-  text = result_ok (variable_in store 0 name);
-  size = requested widget (variable_text widget store);
-}
+-- a global variable with its text
+abbrev pub read_named : Store → List ℕ → TextRead
+read_named store name = record { name = name; text = result_ok (variable_in store 0 name) }
 
--- the one that the widget shows
-abbrev pub read_of : Store → ℕ → Widget → Option TextRead
-read_of store number widget = option_map (read_named store number widget) (variable_of widget)
+-- the one that a widget shows
+abbrev pub read_of : Store → Widget → Option TextRead
+read_of store widget = option_map (read_named store) (variable_of widget)
 
 -- the one that the widget of the window with a number shows
 abbrev pub read_at : Windowing → Store → ℕ → Option TextRead
-read_at own store number = option_and_then (read_of store number) (widget_at number own.widgets)
-
--- those of all windows
-unfoldable pub reads : Windowing → Store → List TextRead
-reads own store = filter_map (read_at own store) (pre_order own.tree)
+read_at own store number = option_and_then (read_of store) (widget_at number own.widgets)
 
 abbrev pub same_text : Option (List ℕ) → Option (List ℕ) → Bool
 same_text None None = true
@@ -39,18 +28,27 @@ same_text None (Some now) = false
 same_text (Some text) None = false
 same_text (Some text) (Some now) = bytes_eq text now
 
-abbrev pub is_size : Option (ℕ × ℕ) → ℕ × ℕ → Bool
-is_size None size = false
-is_size (Some now) size = (now.0 == size.0) && (now.1 == size.1)
+-- a variable has the text that it had
+abbrev pub holds : Store → TextRead → Bool
+holds store read = same_text read.text (result_ok (variable_in store 0 read.name))
 
--- what the widget of the window with a number asks for now
-abbrev pub size_now : OwnWidgets → Store → ℕ → Option (ℕ × ℕ)
-size_now widgets store number = option_map (λ widget. requested widget (variable_text widget store)) (widget_at number widgets)
+-- what was read, by the numbers of the windows
+abbrev pub Reads : Type 0
+Reads = List (ℕ × TextRead)
 
--- a variable has the text that it had, or its widget asks for the size that it asked for
-abbrev pub holds : OwnWidgets → Store → TextRead → Bool
-holds widgets store read = same_text read.text (result_ok (variable_in store 0 read.name)) || is_size (size_now widgets store read.number) read.size
+-- what the window with a number shows is among them, if it shows a variable
+abbrev pub IsKept : Windowing → Store → Reads → ℕ → Type 0
+IsKept own store reads number = (read : TextRead) → read_at own store number ≡ Some read → lookup (nat_eq number) reads ≡ Some read
 
--- so it is with each of them
-abbrev pub hold : OwnWidgets → Store → List TextRead → Bool
-hold widgets store reads = list_all (holds widgets store) reads
+-- the variable that the window with a number showed has the text that it had
+abbrev pub StillHolds : Store → Reads → ℕ → Type 0
+StillHolds store reads number = (read : TextRead) → lookup (nat_eq number) reads ≡ Some read → holds store read ≡ true
+
+abbrev pub IsOneOf : ℕ → List ℕ → Type 0
+IsOneOf number [] = ⊥
+IsOneOf number (other ∷ numbers) = (number ≡ other) ⊎ IsOneOf number numbers
+
+-- the window with a number shows this variable now, if any, and every other one what it showed
+pub record PutsRead (number : ℕ) (read : Option TextRead) (old new : Reads) : Type 0 where
+  pub own : lookup (nat_eq number) new ≡ read
+  pub others : (other : ℕ) → other ≢ number → lookup (nat_eq other) new ≡ lookup (nat_eq other) old

@@ -1,21 +1,20 @@
 //! Laying out the windows of an application.
-ghost use Rattle.std.specs.Prelude.{◌≡◌, ℕ, IfOk, IsSome, OnOk, OnErr, nat_eq};
-ghost use Rattle.std.specs.HashMap.{get};
-ghost use Rattle.tk_packer.specs.Changes.{changes_of};
-ghost use Rattle.tk_packer.specs.Layout.{layout};
+ghost use Rattle.std.specs.Prelude.{◌≡◌, ℕ, IfOk, IfSome, OnOk, OnErr};
 ghost use Rattle.tk_screen.specs.Layout.{changes_due, laid_out_windowing, size_asked, size_of};
+ghost use Rattle.tk_screen.specs.Seen.{IsMarked, IsWith};
 ghost use Rattle.tk_screen.specs.Shared.{own_of, LeavesOthers};
-ghost use Rattle.tk_screen.specs.Reads.{reads};
+ghost use Rattle.tk_tree.specs.Own.{IsSound};
 
-use crate::reads::TextRead;
+use crate::again::{add_changed, look_at_all};
+use crate::marks::Mark;
 use crate::screen::Screen;
 use crate::seen::{Seen, see};
 use crate::write_changes;
 use std::alloc::{AllocError, Global};
-use std::collections::HashMap;
+use std::collections::BTreeSet;
 use tcl_vars::Scopes;
 use tk_base::Win;
-use tk_packer::{Arrangements, PlaceChange, Shape};
+use tk_packer::{Arrangements, KeptLayout, PlaceChange};
 
 /// The size that a window asks for, in pixels, with what is packed in it and with the texts that variables have now, as `winfo reqwidth` and
 /// `reqheight` tell it (winfo(n)); none where the window isn't there or has no widget.
@@ -38,77 +37,162 @@ pub fn requested_size(
     )
 }
 
-/// What a layout changed, and what it read of variables.
+/// What a layout changed, and the mark of the application that was laid out so, if its layout can be kept.
 #[derive(Drop)]
 pub struct Laid {
     pub changes: Vec<PlaceChange>,
-    pub reads: Vec<TextRead>,
+    pub mark: Option<Mark>,
 }
 
 /// Lays out the windows of an application with the texts that variables have now, and answers what that changes, in the order of the windows,
 /// each before its children: for each that is changed Unmap, Configure and Map, of these what applies. Where memory is refused no window is
-/// changed.
+/// changed. Where it was laid out before, those windows alone are looked at that may look otherwise since.
 #[tactic(auto, unfolding(crate::specs::Layout::changes_due, crate::specs::Layout::laid_out_windowing))]
 pub fn lay_out(
     alloc: Global,
     screen: &mut Screen,
     slot: usize,
     scopes: &Scopes,
+    mark: Option<Mark>,
 ) -> Result<Laid, AllocError>
+    requires sound { IsSound (own_of slot screen.old).tree }
+    requires marked { IfSome mark (λ mark. IsMarked mark (own_of slot screen.old)) }
     ensures changes { IfOk result (λ laid. laid.changes.items ≡ changes_due (own_of slot screen.old) scopes.now) }
-    ensures reads { IfOk result (λ laid. laid.reads.items ≡ reads (own_of slot screen.old) scopes.now) }
     ensures own { OnOk result (own_of slot screen.new ≡ laid_out_windowing (own_of slot screen.old) scopes.now) }
     ensures others { LeavesOthers slot screen.old screen.new }
+    ensures marked { IfOk result (λ laid. IfSome laid.mark (λ mark. IsMarked mark (own_of slot screen.new))) }
     ensures err { OnErr result (own_of slot screen.new ≡ own_of slot screen.old) }
 {
-    let laid = changes_due(alloc, screen, slot, scopes)?;
+    let laid = changes_due(alloc, screen, slot, scopes, mark)?;
     write_changes(&mut screen.windows, slot, laid.changes.as_slice());
     Ok(laid)
 }
 
-/// What a layout changes, and what it reads of variables.
-#[tactic(auto, unfolding(crate::specs::Layout::changes_due))]
+/// What a layout changes, and the mark of the application once that is written.
 fn changes_due(
     alloc: Global,
-    screen: &mut Screen,
+    screen: &Screen,
+    slot: usize,
+    scopes: &Scopes,
+    mark: Option<Mark>,
+) -> Result<Laid, AllocError>
+    requires sound { IsSound (own_of slot screen.now).tree }
+    requires marked { IfSome mark (λ mark. IsMarked mark (own_of slot screen.now)) }
+    ensures changes { IfOk result (λ laid. laid.changes.items ≡ changes_due (own_of slot screen.now) scopes.now) }
+    ensures marked { IfOk result (λ laid. IfSome laid.mark (λ mark. IsMarked mark (laid_out_windowing (own_of slot screen.now) scopes.now))) }
+{
+    match mark {
+        Some(mark) => changes_since(alloc, screen, slot, scopes, mark),
+        None => changes_anew(alloc, screen, slot, scopes),
+    }
+}
+
+/// The same, of an application that was laid out before.
+fn changes_since(
+    alloc: Global,
+    screen: &Screen,
+    slot: usize,
+    scopes: &Scopes,
+    mark: Mark,
+) -> Result<Laid, AllocError>
+    requires sound { IsSound (own_of slot screen.now).tree }
+    requires marked { IsMarked mark (own_of slot screen.now) }
+    ensures changes { IfOk result (λ laid. laid.changes.items ≡ changes_due (own_of slot screen.now) scopes.now) }
+    ensures marked { IfOk result (λ laid. IfSome laid.mark (λ mark. IsMarked mark (laid_out_windowing (own_of slot screen.now) scopes.now))) }
+{
+    let Mark {
+        mut reads,
+        mut touched,
+        repacked,
+        layout,
+    } = mark;
+    let Some(mut layout) = with_packs(alloc, screen, slot, layout, repacked)? else {
+        return changes_anew(alloc, screen, slot, scopes);
+    };
+    add_changed(&mut touched, &reads, scopes)?;
+    look_at_all(screen, slot, scopes, &mut touched, &mut layout, &mut reads)?;
+    let changes = layout.lay_out(alloc)?;
+    Ok(Laid {
+        changes,
+        mark: Some(Mark {
+            reads,
+            touched,
+            repacked: false,
+            layout,
+        }),
+    })
+}
+
+/// A layout with what is packed now, where that may be other; none where it can't be kept.
+fn with_packs(
+    alloc: Global,
+    screen: &Screen,
+    slot: usize,
+    layout: KeptLayout,
+    repacked: bool,
+) -> Result<Option<KeptLayout>, AllocError>
+    ensures { IfOk result (λ found. IfSome found (IsWith repacked (own_of slot screen.now).packs.packs layout)) }
+{
+    if repacked {
+        layout.with_packs(alloc, &screen.packs, slot)
+    } else {
+        Ok(Some(layout))
+    }
+}
+
+/// The same, of one that wasn't.
+fn changes_anew(
+    alloc: Global,
+    screen: &Screen,
     slot: usize,
     scopes: &Scopes,
 ) -> Result<Laid, AllocError>
-    ensures changes { IfOk result (λ laid. laid.changes.items ≡ changes_due (own_of slot screen.old) scopes.now) }
-    ensures reads { IfOk result (λ laid. laid.reads.items ≡ reads (own_of slot screen.old) scopes.now) }
-    ensures same { (other : ℕ) → own_of other screen.new ≡ own_of other screen.old }
-    ensures windows { screen.new.windows ≡ screen.old.windows }
+    requires { IsSound (own_of slot screen.now).tree }
+    ensures changes { IfOk result (λ laid. laid.changes.items ≡ changes_due (own_of slot screen.now) scopes.now) }
+    ensures marked { IfOk result (λ laid. IfSome laid.mark (λ mark. IsMarked mark (laid_out_windowing (own_of slot screen.now) scopes.now))) }
 {
     let Seen { shapes, reads } = see(alloc, screen, slot, scopes)?;
-    let changes = changes_of(alloc, screen, slot, shapes.as_slice())?;
-    Ok(Laid { changes, reads })
+    let size = size_of(screen, slot);
+    let Some(mut layout) = KeptLayout::new(alloc, size, &screen.packs, slot, shapes)? else {
+        return changes_once(alloc, screen, slot, scopes);
+    };
+    let changes = layout.lay_out(alloc)?;
+    Ok(Laid {
+        changes,
+        mark: Some(Mark {
+            reads,
+            touched: BTreeSet::new(alloc),
+            repacked: false,
+            layout,
+        }),
+    })
 }
 
-/// What laying out windows that look so changes. What was arranged is used again, and kept for the next.
-fn changes_of(
+/// What a layout changes that can't be kept.
+#[tactic(auto, unfolding(crate::specs::Layout::changes_due))]
+fn changes_once(
     alloc: Global,
-    screen: &mut Screen,
+    screen: &Screen,
     slot: usize,
-    shapes: &[Shape],
-) -> Result<Vec<PlaceChange>, AllocError>
-    ensures changes { IfOk result (λ changes. changes.items
-        ≡ changes_of shapes.now (layout (size_of (own_of slot screen.old)) (own_of slot screen.old).packs.packs shapes.now)) }
-    ensures same { (other : ℕ) → own_of other screen.new ≡ own_of other screen.old }
-    ensures windows { screen.new.windows ≡ screen.old.windows }
+    scopes: &Scopes,
+) -> Result<Laid, AllocError>
+    ensures changes { IfOk result (λ laid. laid.changes.items ≡ changes_due (own_of slot screen.now) scopes.now) }
+    ensures marked { IfOk result (λ laid. IfSome laid.mark (λ mark. IsMarked mark (laid_out_windowing (own_of slot screen.now) scopes.now))) }
 {
-    let size = size_of(screen, slot);
-    open_arrangements(alloc, &mut screen.arrangements, slot)?;
-    match screen.arrangements.get_mut(&slot) {
-        Some(arrangements) => tk_packer::lay_out(
-            alloc,
-            size,
-            &screen.packs,
-            slot,
-            shapes,
-            arrangements,
-        ),
-        None => unreachable!(),
-    }
+    let Seen { shapes, reads: _ } = see(alloc, screen, slot, scopes)?;
+    let mut arrangements = Arrangements::new(alloc);
+    let changes = tk_packer::lay_out(
+        alloc,
+        size_of(screen, slot),
+        &screen.packs,
+        slot,
+        shapes.as_slice(),
+        &mut arrangements,
+    )?;
+    Ok(Laid {
+        changes,
+        mark: None,
+    })
 }
 
 /// The width and height of an application's rectangle.
@@ -119,19 +203,4 @@ fn size_of(screen: &Screen, slot: usize) -> (u32, u32)
         Some(toplevel) => toplevel.size,
         None => (0, 0),
     }
-}
-
-/// Makes a place for the arrangements of an application that has none.
-fn open_arrangements(
-    alloc: Global,
-    arrangements: &mut HashMap<usize, Arrangements>,
-    slot: usize,
-) -> Result<(), AllocError>
-    ensures { OnOk result (IsSome (get nat_eq arrangements.new slot)) }
-{
-    if arrangements.contains_key(&slot) {
-        return Ok(());
-    }
-    arrangements.insert(slot, Arrangements::new(alloc))?;
-    Ok(())
 }

@@ -2,6 +2,7 @@
 //! title of each application; what windows ask for, where they are laid out, and what they show.
 #![tactic(auto)]
 
+mod again;
 mod changes;
 mod fields;
 mod kept;

@@ -12,7 +12,7 @@ use std::alloc::{AllocError, Global};
 use std::collections::HashMap;
 use tcl_text::Text;
 use tk_base::{Kind, Win};
-use tk_packer::{Arrangements, PackTable};
+use tk_packer::PackTable;
 use tk_tree::{WindowFault, Windows};
 use tk_widgets::Widget;
 
@@ -22,8 +22,6 @@ pub struct Screen {
     pub packs: PackTable,
     pub widgets: Widgets,
     pub toplevels: HashMap<usize, Toplevel>,
-    /// What was arranged, which no contract sees.
-    pub arrangements: HashMap<usize, Arrangements>,
 }
 
 impl Screen {
@@ -36,7 +34,6 @@ impl Screen {
             packs: PackTable::new(alloc),
             widgets: Widgets::new(alloc),
             toplevels: HashMap::new(alloc),
-            arrangements: HashMap::new(alloc),
         }
     }
 
@@ -109,16 +106,6 @@ impl Screen {
         self.windows.remove(win);
         self.widgets.remove(win);
         self.packs.remove(win);
-        self.forget_arrangement(win);
-    }
-
-    /// Forgets what was arranged in a window.
-    fn forget_arrangement(&mut self, win: Win)
-        ensures { (slot : ℕ) → own_of slot self.new ≡ own_of slot self.old }
-    {
-        if let Some(arrangements) = self.arrangements.get_mut(&win.owner) {
-            arrangements.forget(win.number);
-        }
     }
 }
 
@@ -130,7 +117,6 @@ impl Drop for Screen {
             packs: _,
             widgets: _,
             toplevels: _,
-            arrangements: _,
         } = self;
     }
 }

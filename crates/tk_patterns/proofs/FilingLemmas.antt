@@ -6,6 +6,7 @@ use Rattle.std.specs.Option.{option_map_or}
 use Rattle.std.specs.Str.{bytes_eq}
 use Rattle.tk_patterns.proofs.RestLemmas.{NoneSought}
 use Rattle.tk_patterns.specs.declared.filed.Filed.{Filed}
+use Rattle.tk_patterns.specs.declared.filed.Numbers.{Numbers}
 use Rattle.tk_patterns.specs.Filed.{stamps_of}
 use Rattle.tk_sequences.specs.declared.event.Event.{Event}
 use Rattle.tk_sequences.specs.declared.event.EventKind.TheVariants as kinds
@@ -15,7 +16,7 @@ use Rattle.tk_patterns.specs.Matches.{earlier_at}
 use Rattle.tk_patterns.specs.Copies.{all_copies, newest_copy, earlier_copies, copies_of}
 use Rattle.tk_patterns.specs.Matches.{matches, ends_at, have_places}
 use Rattle.tk_patterns.specs.declared.binding.Binding.{Binding}
-use Rattle.tk_patterns.specs.Filing.{filing_number, number_of, is_number, is_number_of_key, is_number_of_button, is_number_of_names, own_class, is_of_event, name_number, pairs_of_key, pairs_of_button, pairs_of_any, is_named, is_sought}
+use Rattle.tk_patterns.specs.Filing.{filing_number, filed_under, is_number, is_number_of_key, is_number_of_button, is_for_key, is_for_button, is_for_any, is_for_names, is_for_virtuals, is_of_event, name_number, pairs_of_key, pairs_of_button, pairs_of_any, is_named, is_sought, sequence_number}
 use Rattle.tk_virtual.specs.Classes.{detail_number, class_number, sequence_class, is_of_class}
 use Rattle.tk_virtual.specs.declared.pair.Pair.{Pair}
 use Rattle.tk_virtual.specs.Virtual.{meanings_of}
@@ -73,7 +74,7 @@ last_fits event history pattern patterns h =
     (ap (λ copies. ends_at copies (earlier_at event.number history) event) (sym found.is) ∙ h)
 
 -- ── nothing is sought ──
-pub none_stamps : (list : List Filed) → stamps_of (λ number. false) list ≡ []
+pub none_stamps : (list : List Filed) → stamps_of (λ numbers. false) list ≡ []
 none_stamps [] = refl
 none_stamps (filed ∷ list) = none_stamps list
 
@@ -188,9 +189,13 @@ unmatched event history type kind (Physical (pattern ∷ patterns)) apart = by (
     by false is = refl
 unmatched event history type kind (Virtual name) apart = refl
 
-module _ (event : Event) (history : List Event) (virtuals : List Pair) (tag : List ℕ) (type : EventType) (kind : event.kind ≡ kinds.Physical type) where
-  abbrev sought : ℕ → Bool
-  sought = is_sought tag type event virtuals
+module _ (event : Event) (history : List Event) (virtuals : List Pair) (tag : List ℕ) (type : EventType) (few : Bool) (kind : event.kind ≡ kinds.Physical type) where
+  abbrev sought : Numbers → Bool
+  sought = is_sought few tag type event virtuals
+
+  -- what a sequence of the tag is filed under
+  abbrev under : Sequence → Numbers
+  under sequence = record { class = filing_number tag (sequence_class sequence); whole = filing_number tag (sequence_number sequence) }
 
   abbrev pairs : Pairs
   pairs = meanings_of virtuals
@@ -243,42 +248,49 @@ module _ (event : Event) (history : List Event) (virtuals : List Pair) (tag : Li
           ∙ ap (λ front. front ++ through event history name script (meanings_of rest)) (nothing_by (bytes_eq pair.name name))
       by false is = ap (λ t. cond t (cond (matches pair.sequence event history) (as_candidates pair.name script pair.sequence) []) [] ++ through event history name script (meanings_of rest)) is
 
-  match_sought : (pattern : Pattern) (patterns : List Pattern) → matches (Physical (pattern ∷ patterns)) event history ≡ true → sought (filing_number tag (sequence_class (Physical (pattern ∷ patterns)))) ≡ true
+  match_sought : (pattern : Pattern) (patterns : List Pattern) → matches (Physical (pattern ∷ patterns)) event history ≡ true → sought (under (Physical (pattern ∷ patterns))) ≡ true
   match_sought pattern patterns h =
-      let number = filing_number tag (sequence_class (Physical (pattern ∷ patterns))) in
-      by_three (is_number_of_key tag type event.key number) (is_number_of_button tag type event.button number) (is_number tag type None number) (is_number_of_names tag type event virtuals number)
+      let numbers = under (Physical (pattern ∷ patterns)) in
+      by_three (is_for_key tag type event.key numbers) (is_for_button tag type event.button numbers) (is_for_any tag type numbers) (is_for_virtuals few tag type event virtuals numbers)
       (match_own event history tag type kind pattern patterns h)
 
-  unmatched_by : (pattern : Pattern) (patterns : List Pattern) (script : List ℕ) (t : Bool) → matches (Physical (pattern ∷ patterns)) event history ≡ t → sought (filing_number tag (sequence_class (Physical (pattern ∷ patterns)))) ≡ false
+  unmatched_by : (pattern : Pattern) (patterns : List Pattern) (script : List ℕ) (t : Bool) → matches (Physical (pattern ∷ patterns)) event history ≡ t → sought (under (Physical (pattern ∷ patterns))) ≡ false
       → of_sequence event history pairs script (Physical (pattern ∷ patterns)) ≡ []
   unmatched_by pattern patterns script true is unsought = absurd (let found = match_sought pattern patterns is in cc)
   unmatched_by pattern patterns script false is unsought = rw is refl
 
-  no_sequence : (script : List ℕ) (sequence : Sequence) → sought (filing_number tag (own_class sequence)) ≡ false → of_sequence event history pairs script sequence ≡ []
+  -- where all for virtual events are sought none is left out, else those whose names no pair has
+  no_virtual : (script name : List ℕ) (all : Bool) → is_for_virtuals all tag type event virtuals (under (Virtual name)) ≡ false → of_sequence event history pairs script (Virtual name) ≡ []
+  no_virtual script name true unsought = absurd (true≢false (sym (itself (filing_number tag 0)) ∙ unsought))
+  no_virtual script name false unsought =
+      let none = all_false (is_named tag (pairs_of_key type event.key virtuals) (name_number tag name)) (is_named tag (pairs_of_button type event.button virtuals) (name_number tag name)) (is_named tag (pairs_of_any type virtuals) (name_number tag name)) unsought in
+      no_through name script virtuals none.one none.two none.three
+
+  no_sequence : (script : List ℕ) (sequence : Sequence) → sought (under sequence) ≡ false → of_sequence event history pairs script sequence ≡ []
   no_sequence script (Physical []) unsought = refl
   no_sequence script (Physical (pattern ∷ patterns)) unsought = unmatched_by pattern patterns script (matches (Physical (pattern ∷ patterns)) event history) refl unsought
   no_sequence script (Virtual name) unsought =
-      let number = name_number tag name in
-      let none = all_false (is_named tag (pairs_of_key type event.key virtuals) (name_number tag name)) (is_named tag (pairs_of_button type event.button virtuals) (name_number tag name)) (is_named tag (pairs_of_any type virtuals) (name_number tag name))
-      (not_fourth (is_number_of_key tag type event.key number) (is_number_of_button tag type event.button number) (is_number tag type None number) (is_number_of_names tag type event virtuals number) unsought) in
-      no_through name script virtuals none.one none.two none.three
+      let numbers = under (Virtual name) in
+      no_virtual script name few
+      (not_fourth (is_for_key tag type event.key numbers) (is_for_button tag type event.button numbers) (is_for_any tag type numbers) (is_for_virtuals few tag type event virtuals numbers) unsought)
 
-  no_binding_by : (binding : Binding) (t : Bool) → has_tag tag binding ≡ t → sought (number_of binding) ≡ false → of_binding event history pairs tag binding ≡ []
+  no_binding_by : (binding : Binding) (t : Bool) → has_tag tag binding ≡ t → sought (filed_under binding) ≡ false → of_binding event history pairs tag binding ≡ []
   no_binding_by binding true is unsought =
       let same : binding.tag ≡ tag = (bytes_eq-Decides binding.tag tag).0 is in
-      rw is (no_sequence binding.script binding.sequence (ap (λ t. sought (filing_number t (own_class binding.sequence))) (sym same) ∙ unsought))
+      rw is (no_sequence binding.script binding.sequence
+      (ap (λ t. sought (record { class = filing_number t (sequence_class binding.sequence); whole = filing_number t (sequence_number binding.sequence) })) (sym same) ∙ unsought))
   no_binding_by binding false is unsought = rw is refl
 
-  pub no_candidate : (binding : Binding) → sought (number_of binding) ≡ false → of_binding event history pairs tag binding ≡ []
+  pub no_candidate : (binding : Binding) → sought (filed_under binding) ≡ false → of_binding event history pairs tag binding ≡ []
   no_candidate binding unsought = no_binding_by binding (has_tag tag binding) refl unsought
 
   -- those before a place that isn't sought are passed over
-  pub passed_over : (place : ℕ) (own : List Binding) → NoneSought sought place (map number_of own) → candidates event history pairs tag own ≡ candidates event history pairs tag (drop place own)
+  pub passed_over : (place : ℕ) (own : List Binding) → NoneSought sought place (map filed_under own) → candidates event history pairs tag own ≡ candidates event history pairs tag (drop place own)
   passed_over zero own none = refl
   passed_over (suc place) [] none = refl
   passed_over (suc place) (binding ∷ own) none =
       ap (λ front. front ++ candidates event history pairs tag own) (no_candidate binding none.0) ∙ passed_over place own none.1
 
-  pub none_at_all : (own : List Binding) → NoneSought sought (length own) (map number_of own) → candidates event history pairs tag own ≡ []
+  pub none_at_all : (own : List Binding) → NoneSought sought (length own) (map filed_under own) → candidates event history pairs tag own ≡ []
   none_at_all [] none = refl
   none_at_all (binding ∷ own) none = ap (λ front. front ++ candidates event history pairs tag own) (no_candidate binding none.0) ∙ none_at_all own none.1

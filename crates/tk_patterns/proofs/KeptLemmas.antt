@@ -2,14 +2,20 @@
 use Rattle.std.proofs.Common.{◌≡◌, ℕ, zero, suc, ◌<◌, Bool, true, false, cond, List, [], ◌∷◌, ◌++◌, length, take, drop, map, filter, get_or, refl, sym, ap, ◌∙◌, arith}
 use Rattle.std.specs.List.{remove}
 use Rattle.tk_patterns.specs.declared.binding.Binding.{Binding}
-use Rattle.tk_patterns.specs.Filing.{number_of}
+use Rattle.tk_patterns.specs.declared.filed.Numbers.{Numbers}
+use Rattle.tk_sequences.specs.declared.sequence.Sequence.{Sequence}
 use Rattle.tk_patterns.specs.OwnSteps.{with_script_at}
 
-pub numbers_again : (own : List Binding) (place : ℕ) (script : List ℕ) → map number_of (with_script_at place script own) ≡ map number_of own
-numbers_again [] zero script = refl
-numbers_again [] (suc place) script = refl
-numbers_again (binding ∷ own) zero script = refl
-numbers_again (binding ∷ own) (suc place) script = ap (λ numbers. number_of binding ∷ numbers) (numbers_again own place script)
+-- numbers that the script doesn't change
+module _ (numbers : List ℕ → Sequence → Numbers) where
+  abbrev numbered : Binding → Numbers
+  numbered binding = numbers binding.tag binding.sequence
+
+  pub numbers_again : (own : List Binding) (place : ℕ) (script : List ℕ) → map numbered (with_script_at place script own) ≡ map numbered own
+  numbers_again [] zero script = refl
+  numbers_again [] (suc place) script = refl
+  numbers_again (binding ∷ own) zero script = refl
+  numbers_again (binding ∷ own) (suc place) script = ap (λ others. numbered binding ∷ others) (numbers_again own place script)
 
 pub map_remove : {X Y : Type 0} (f : X → Y) (xs : List X) (place : ℕ) → map f (remove xs place) ≡ remove (map f xs) place
 map_remove f [] zero = refl

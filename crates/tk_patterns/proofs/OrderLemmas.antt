@@ -6,6 +6,7 @@ use Rattle.std.proofs.lemmas.Cmp.{ranked}
 use Rattle.std.proofs.lemmas.List.{at_drop_more}
 use Rattle.std.proofs.lemmas.Slice.Eq.{bytes_eq-Decides}
 use Rattle.tk_patterns.specs.declared.filed.Filed.{Filed}
+use Rattle.tk_patterns.specs.declared.filed.Numbers.{Numbers}
 use Rattle.tk_patterns.specs.Filed.{stamps_of, AllAbove, IsRising}
 use Rattle.tk_patterns.specs.Filing.{name_number, is_named, with_stamps, all_named, is_repeat, without_repeats}
 use Rattle.tk_virtual.specs.declared.pair.Pair.{Pair}
@@ -44,9 +45,9 @@ over_by : (t : Bool) (stamp first : ℕ) (xs : List ℕ) → stamp < first → A
 over_by true stamp first xs less over = (less, over)
 over_by false stamp first xs less over = over
 
-all_over : (stamp : ℕ) (sought : ℕ → Bool) (list : List Filed) → AllAbove stamp list → AllOver stamp (stamps_of sought list)
+all_over : (stamp : ℕ) (sought : Numbers → Bool) (list : List Filed) → AllAbove stamp list → AllOver stamp (stamps_of sought list)
 all_over stamp sought [] above = tt
-all_over stamp sought (filed ∷ list) above = over_by (sought filed.number) stamp filed.stamp (stamps_of sought list) above.0 (all_over stamp sought list above.1)
+all_over stamp sought (filed ∷ list) above = over_by (sought filed.numbers) stamp filed.stamp (stamps_of sought list) above.0 (all_over stamp sought list above.1)
 
 put_first : (first : ℕ) (xs : List ℕ) → AllOver first xs → insert_key nat_cmp xs first ≡ first ∷ xs
 put_first first [] over = refl
@@ -62,9 +63,9 @@ put_above first xs (y ∷ ys) over =
     ∙ put_above first (insert_key nat_cmp xs y) ys over.1
 
 -- ── those that one or the other seeks ──
-both : (p q : ℕ → Bool) (list : List Filed) → IsRising list → with_stamps (stamps_of p list) (stamps_of q list) ≡ stamps_of (λ n. p n || q n) list
+both : (p q : Numbers → Bool) (list : List Filed) → IsRising list → with_stamps (stamps_of p list) (stamps_of q list) ≡ stamps_of (λ n. p n || q n) list
 both p q [] rising = refl
-both p q (filed ∷ list) rising = by (p filed.number) (q filed.number) (all_over filed.stamp p list rising.0) (all_over filed.stamp q list rising.0) (both p q list rising.1)
+both p q (filed ∷ list) rising = by (p filed.numbers) (q filed.numbers) (all_over filed.stamp p list rising.0) (all_over filed.stamp q list rising.0) (both p q list rising.1)
   where
     by : (s t : Bool) → AllOver filed.stamp (stamps_of p list) → AllOver filed.stamp (stamps_of q list) → with_stamps (stamps_of p list) (stamps_of q list) ≡ stamps_of (λ n. p n || q n) list
         → with_stamps (cond s (filed.stamp ∷ stamps_of p list) (stamps_of p list)) (cond t (filed.stamp ∷ stamps_of q list) (stamps_of q list))
@@ -80,11 +81,11 @@ both p q (filed ∷ list) rising = by (p filed.number) (q filed.number) (all_ove
         ∙ ap (λ stamps. filed.stamp ∷ stamps) rest
     by false false first second rest = rest
 
-same_sought : (p q : ℕ → Bool) → ((n : ℕ) → p n ≡ q n) → (list : List Filed) → stamps_of p list ≡ stamps_of q list
+same_sought : (p q : Numbers → Bool) → ((n : Numbers) → p n ≡ q n) → (list : List Filed) → stamps_of p list ≡ stamps_of q list
 same_sought p q same [] = refl
 same_sought p q same (filed ∷ list) =
-    ap (λ t. cond t (filed.stamp ∷ stamps_of p list) (stamps_of p list)) (same filed.number)
-    ∙ ap (λ stamps. cond (q filed.number) (filed.stamp ∷ stamps) stamps) (same_sought p q same list)
+    ap (λ t. cond t (filed.stamp ∷ stamps_of p list) (stamps_of p list)) (same filed.numbers)
+    ∙ ap (λ stamps. cond (q filed.numbers) (filed.stamp ∷ stamps) stamps) (same_sought p q same list)
 
 or_none : (t : Bool) → t ≡ (t || false)
 or_none true = refl
@@ -95,13 +96,14 @@ or_later true b c = refl
 or_later false b c = refl
 
 -- those of all the names of some pairs are added
-pub names_added : (tag : List ℕ) (list : List Filed) (sought : ℕ → Bool) (pairs : List Pair) → IsRising list → all_named tag list (stamps_of sought list) pairs ≡ stamps_of (λ n. sought n || is_named tag pairs n) list
+pub names_added : (tag : List ℕ) (list : List Filed) (sought : Numbers → Bool) (pairs : List Pair) → IsRising list
+    → all_named tag list (stamps_of sought list) pairs ≡ stamps_of (λ n. sought n || is_named tag pairs n.whole) list
 names_added tag list sought [] rising = same_sought sought (λ n. sought n || false) (λ n. or_none (sought n)) list
 names_added tag list sought (pair ∷ pairs) rising =
-    ap (λ keys. all_named tag list keys pairs) (both sought (λ n. n == name_number tag pair.name) list rising)
-    ∙ names_added tag list (λ n. sought n || (n == name_number tag pair.name)) pairs rising
-    ∙ same_sought (λ n. (sought n || (n == name_number tag pair.name)) || is_named tag pairs n) (λ n. sought n || ((n == name_number tag pair.name) || is_named tag pairs n))
-    (λ n. or_later (sought n) (n == name_number tag pair.name) (is_named tag pairs n)) list
+    ap (λ keys. all_named tag list keys pairs) (both sought (λ n. n.whole == name_number tag pair.name) list rising)
+    ∙ names_added tag list (λ n. sought n || (n.whole == name_number tag pair.name)) pairs rising
+    ∙ same_sought (λ n. (sought n || (n.whole == name_number tag pair.name)) || is_named tag pairs n.whole) (λ n. sought n || ((n.whole == name_number tag pair.name) || is_named tag pairs n.whole))
+    (λ n. or_later (sought n) (n.whole == name_number tag pair.name) (is_named tag pairs n.whole)) list
 
 -- ── a pair whose name came last adds nothing ──
 repeat_at : (last : Option (List ℕ)) (pairs : List Pair) (i : ℕ) (pair : Pair) → i < length pairs → pair ≡ get_or pairs i pair
@@ -146,18 +148,18 @@ module _ (tag : List ℕ) (number : ℕ) where
 -- and those of the pairs of three classes, one after another
 pub names_of_three : (tag : List ℕ) (list : List Filed) (first second third : List Pair) → IsRising list
     → all_named tag list (all_named tag list (all_named tag list [] (without_repeats None first)) (without_repeats None second)) (without_repeats None third)
-    ≡ stamps_of (λ n. (is_named tag first n || is_named tag second n) || is_named tag third n) list
+    ≡ stamps_of (λ n. (is_named tag first n.whole || is_named tag second n.whole) || is_named tag third n.whole) list
 names_of_three tag list first second third rising =
     ap (λ keys. all_named tag list (all_named tag list (all_named tag list keys (without_repeats None first)) (without_repeats None second)) (without_repeats None third)) (sym (nothing list))
     ∙ ap (λ keys. all_named tag list (all_named tag list keys (without_repeats None second)) (without_repeats None third)) (added (λ n. false) first)
-    ∙ ap (λ keys. all_named tag list keys (without_repeats None third)) (added (λ n. is_named tag first n) second)
-    ∙ added (λ n. is_named tag first n || is_named tag second n) third
+    ∙ ap (λ keys. all_named tag list keys (without_repeats None third)) (added (λ n. is_named tag first n.whole) second)
+    ∙ added (λ n. is_named tag first n.whole || is_named tag second n.whole) third
   where
     nothing : (list : List Filed) → stamps_of (λ n. false) list ≡ []
     nothing [] = refl
     nothing (filed ∷ list) = nothing list
 
-    added : (sought : ℕ → Bool) (pairs : List Pair) → all_named tag list (stamps_of sought list) (without_repeats None pairs) ≡ stamps_of (λ n. sought n || is_named tag pairs n) list
+    added : (sought : Numbers → Bool) (pairs : List Pair) → all_named tag list (stamps_of sought list) (without_repeats None pairs) ≡ stamps_of (λ n. sought n || is_named tag pairs n.whole) list
     added sought pairs =
         names_added tag list sought (without_repeats None pairs) rising
-        ∙ same_sought (λ n. sought n || is_named tag (without_repeats None pairs) n) (λ n. sought n || is_named tag pairs n) (λ n. ap (λ t. sought n || t) (names_stay tag n None pairs)) list
+        ∙ same_sought (λ n. sought n || is_named tag (without_repeats None pairs) n.whole) (λ n. sought n || is_named tag pairs n.whole) (λ n. ap (λ t. sought n || t) (names_stay tag n.whole None pairs)) list

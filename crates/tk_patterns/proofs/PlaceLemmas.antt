@@ -11,7 +11,7 @@ use Rattle.tk_patterns.specs.declared.filed.Filed.{Filed}
 use Rattle.tk_patterns.specs.Filed.{HasStampAt, AllAbove, IsRising}
 
 abbrev nothing : Filed
-nothing = record { stamp = 0; number = 0 }
+nothing = record { stamp = 0; numbers = record { class = 0; whole = 0 } }
 
 -- the stamp that stands at a place
 pub stamp_there : (list : List Filed) (place stamp : ℕ) → HasStampAt place stamp list → (place < length list) × ((get_or list place nothing).stamp ≡ stamp)

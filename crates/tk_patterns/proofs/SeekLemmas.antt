@@ -1,5 +1,5 @@
 -- The first binding that passes a test, where all that pass it are filed under one number.
-use Rattle.std.proofs.Common.{◌≡◌, ℕ, zero, suc, ◌+◌, ◌*◌, ◌<◌, ◌≤◌, ◌==◌, Bool, true, false, true≢false, cond, not, List, [], ◌∷◌, length, length-drop, drop, map, Option, Some, None, slice_get, refl, sym, ap, ◌∙◌, subst, arith}
+use Rattle.std.proofs.Common.{◌≡◌, ℕ, zero, suc, ◌+◌, ◌*◌, ◌<◌, ◌≤◌, ◌==◌, Bool, true, false, true≢false, cond, not, List, [], ◌∷◌, length, length-drop, drop, fold, map, Option, Some, None, slice_get, refl, sym, ap, ◌∙◌, subst, arith}
 use Rattle.std.specs.Prelude.{◌&&◌, find, nat_lt, position}
 use Rattle.std.specs.List.{position_or_len}
 use Rattle.std.proofs.lemmas.Bool.Decides.{nat_tests}
@@ -13,15 +13,15 @@ use Rattle.tk_sequences.specs.declared.sequence.Sequence.{Sequence}
 use Rattle.tk_sequences.specs.declared.sequence.Sequence.TheVariants.{Physical, Virtual}
 use Rattle.tk_sequences.specs.Patterns.{times_of}
 use Rattle.tk_sequences.specs.Types.{type_number}
-use Rattle.tk_virtual.specs.Classes.{detail_number, class_number}
+use Rattle.tk_virtual.specs.Classes.{detail_number}
 use Rattle.tk_patterns.specs.declared.binding.Binding.{Binding}
 use Rattle.tk_patterns.specs.declared.filed.Filed.{Filed}
-use Rattle.tk_patterns.specs.Filed.{numbers_of, stamps_of, HasStampAt, IsRising}
-use Rattle.tk_patterns.specs.Filing.{filing_number, own_class, number_of}
+use Rattle.tk_patterns.specs.declared.filed.Numbers.{Numbers}
+use Rattle.tk_patterns.specs.Filed.{numbers_of, stamps_of, has_whole, HasStampAt, IsRising}
+use Rattle.tk_patterns.specs.Filing.{filed_under, filing_number, mixed, sequence_number, whole_number, with_detail, with_pattern}
 use Rattle.tk_patterns.specs.Own.{has_tag, is_of}
 use Rattle.tk_patterns.specs.Rests.{first_of, past}
 use Rattle.tk_patterns.specs.Same.{same_detail, same_pattern, same_patterns, same_sequence}
-use Rattle.tk_patterns.proofs.FilingLemmas.{last_of, class_is}
 use Rattle.tk_patterns.proofs.Reached.{rising_drop, numbers_drop, there_drop, drop_drop, same_length, at_stamp}
 use Rattle.tk_patterns.proofs.RestLemmas.{NoneSought, step, none_left}
 
@@ -34,18 +34,18 @@ above_test place count le = grind (arith, nat_tests)
 first_gone : (stamp : ℕ) (rest : List ℕ) → past stamp (stamp ∷ rest) ≡ rest
 first_gone stamp rest = let same : (stamp == stamp) ≡ true = grind (arith, nat_tests) in ap (λ t. cond t rest (stamp ∷ rest)) same
 
-module _ (test : Binding → Bool) (number : ℕ) (filed_so : (binding : Binding) → test binding ≡ true → (number_of binding == number) ≡ true) where
-  abbrev sought : ℕ → Bool
-  sought n = n == number
+module _ (test : Binding → Bool) (number : ℕ) (filed_so : (binding : Binding) → test binding ≡ true → (whole_number binding == number) ≡ true) where
+  abbrev sought : Numbers → Bool
+  sought = has_whole number
 
-  untested : (binding : Binding) → sought (number_of binding) ≡ false → test binding ≡ false
+  untested : (binding : Binding) → sought (filed_under binding) ≡ false → test binding ≡ false
   untested binding unsought = by (test binding) refl
     where
       by : (t : Bool) → test binding ≡ t → t ≡ false
       by true is = absurd (true≢false (sym (filed_so binding is) ∙ unsought))
       by false is = refl
 
-  skipped : (place : ℕ) (own : List Binding) → place ≤ length own → NoneSought sought place (map number_of own) → position_or_len test own ≡ place + position_or_len test (drop place own)
+  skipped : (place : ℕ) (own : List Binding) → place ≤ length own → NoneSought sought place (map filed_under own) → position_or_len test own ≡ place + position_or_len test (drop place own)
   skipped zero own within none = omega arith
   skipped (suc place) [] within none = absurd (omega arith)
   skipped (suc place) (binding ∷ own) within none =
@@ -63,7 +63,7 @@ module _ (test : Binding → Bool) (number : ℕ) (filed_so : (binding : Binding
     pub begun : (rest : List ℕ) → rest ≡ stamps_of sought list → Seeking rest
     begun rest is = record { from = 0; left = is; before = omega arith }
 
-    module _ (rising : IsRising list) (numbers : numbers_of list ≡ map number_of own) where
+    module _ (rising : IsRising list) (numbers : numbers_of list ≡ map filed_under own) where
       pub record Here (stamp : ℕ) (rest : List ℕ) : Type 0 where
         pub place : ℕ
         pub there : HasStampAt place stamp list
@@ -110,7 +110,7 @@ module _ (test : Binding → Bool) (number : ℕ) (filed_so : (binding : Binding
           let from = reached.from in
           let none = none_left sought (drop from list) (sym (ap first_of reached.left)) in
           let many : length (drop from list) ≡ length (drop from own) = same_length (drop from list) (drop from own) (numbers_drop from list own numbers) in
-          let all = subst (λ n. NoneSought sought n (map number_of (drop from own))) many (subst (NoneSought sought (length (drop from list))) (numbers_drop from list own numbers) none) in
+          let all = subst (λ n. NoneSought sought n (map filed_under (drop from own))) many (subst (NoneSought sought (length (drop from list))) (numbers_drop from list own numbers) none) in
           let passed = skipped (length (drop from own)) (drop from own) (omega arith) all in
           let past_all : length own ≤ position_or_len test own = omega (arith, reached.before, passed, length-drop from own) in
           ap (λ t. cond t (Some (position_or_len test own)) None) (above_test (position_or_len test own) (length own) past_all)
@@ -133,12 +133,12 @@ found_at test own place is = by (nat_lt (position_or_len test own) (length own))
     by false is = absurd (cc)
 
 -- ── the bindings of a tag for a sequence are filed under its number ──
-four_last : (a b c d : Bool) → (a && b && c && d) ≡ true → (c ≡ true) × (d ≡ true)
-four_last true true true true h = (refl, refl)
-four_last true true true false h = absurd (cc)
-four_last true true false d h = absurd (cc)
-four_last true false c d h = absurd (cc)
-four_last false b c d h = absurd (cc)
+all_four : (a b c d : Bool) → (a && b && c && d) ≡ true → (a ≡ true) × (b ≡ true) × (c ≡ true) × (d ≡ true)
+all_four true true true true h = (refl, refl, refl, refl)
+all_four true true true false h = absurd (cc)
+all_four true true false d h = absurd (cc)
+all_four true false c d h = absurd (cc)
+all_four false b c d h = absurd (cc)
 
 both_so : (a b : Bool) → (a && b) ≡ true → (a ≡ true) × (b ≡ true)
 both_so true true h = (refl, refl)
@@ -148,45 +148,45 @@ both_so false b h = absurd (cc)
 equal : (m n : ℕ) → (m == n) ≡ true → m ≡ n
 equal m n h = grind (arith, nat_tests, h)
 
-one_detail : (detail other : Option Detail) → same_detail detail other ≡ true → detail_number detail ≡ detail_number other
+one_detail : (detail other : Option Detail) → same_detail detail other ≡ true → detail ≡ other
 one_detail None None h = refl
 one_detail None (Some other) h = absurd (cc)
-one_detail (Some (Key key)) (Some (Key other)) h = ap (λ k. detail_number (Some (Key k))) (equal key other h)
-one_detail (Some (Button button)) (Some (Button other)) h = ap (λ b. detail_number (Some (Button b))) (equal button other h)
+one_detail (Some (Key key)) (Some (Key other)) h = ap (λ k. Some (Key k)) (equal key other h)
+one_detail (Some (Button button)) (Some (Button other)) h = ap (λ b. Some (Button b)) (equal button other h)
 one_detail (Some (Key key)) (Some (Button other)) h = absurd (cc)
 one_detail (Some (Button button)) (Some (Key other)) h = absurd (cc)
 one_detail (Some (Key key)) None h = absurd (cc)
 one_detail (Some (Button button)) None h = absurd (cc)
 
-one_class : (pattern other : Pattern) → same_pattern pattern other ≡ true → class_number pattern.kind pattern.detail ≡ class_number other.kind other.detail
-one_class pattern other h =
-    let parts = four_last (pattern.modifiers == other.modifiers) (times_of pattern.times == times_of other.times) (type_number pattern.kind == type_number other.kind) (same_detail pattern.detail other.detail) h in
-    ap (λ n. n * 1024 + detail_number pattern.detail) (equal (type_number pattern.kind) (type_number other.kind) parts.0)
-    ∙ ap (λ n. type_number other.kind * 1024 + n) (one_detail pattern.detail other.detail parts.1)
+-- what the number of a pattern is made of
+abbrev with_parts : ℕ → ℕ → ℕ → ℕ → Option Detail → ℕ
+with_parts number modifiers times type detail = with_detail (mixed (mixed (mixed number modifiers) times) (type * 1024 + detail_number detail)) detail
 
-last_class : (pattern : Pattern) (patterns : List Pattern) (other : Pattern) (others : List Pattern) → same_pattern pattern other ≡ true → same_patterns patterns others ≡ true
-    → class_number (last_of pattern patterns).kind (last_of pattern patterns).detail ≡ class_number (last_of other others).kind (last_of other others).detail
-last_class pattern [] other [] h hs = one_class pattern other h
-last_class pattern [] other (later ∷ others) h hs = absurd (cc)
-last_class pattern (next ∷ patterns) other [] h hs = absurd (cc)
-last_class pattern (next ∷ patterns) other (later ∷ others) h hs =
-    let parts = both_so (same_pattern next later) (same_patterns patterns others) hs in
-    last_class next patterns later others parts.0 parts.1
+same_with_pattern : (number : ℕ) (pattern other : Pattern) → same_pattern pattern other ≡ true → with_pattern number pattern ≡ with_pattern number other
+same_with_pattern number pattern other h =
+    let parts = all_four (pattern.modifiers == other.modifiers) (times_of pattern.times == times_of other.times) (type_number pattern.kind == type_number other.kind) (same_detail pattern.detail other.detail) h in
+    ap (λ m. with_parts number m (times_of pattern.times) (type_number pattern.kind) pattern.detail) (equal pattern.modifiers other.modifiers parts.0)
+    ∙ ap (λ t. with_parts number other.modifiers t (type_number pattern.kind) pattern.detail) (equal (times_of pattern.times) (times_of other.times) parts.1)
+    ∙ ap (λ k. with_parts number other.modifiers (times_of other.times) k pattern.detail) (equal (type_number pattern.kind) (type_number other.kind) parts.2)
+    ∙ ap (with_parts number other.modifiers (times_of other.times) (type_number other.kind)) (one_detail pattern.detail other.detail parts.3)
 
-same_class : (sequence other : Sequence) → same_sequence sequence other ≡ true → own_class sequence ≡ own_class other
-same_class (Physical []) (Physical []) h = refl
-same_class (Physical []) (Physical (other ∷ others)) h = absurd (cc)
-same_class (Physical (pattern ∷ patterns)) (Physical []) h = absurd (cc)
-same_class (Physical (pattern ∷ patterns)) (Physical (other ∷ others)) h =
+same_numbers : (number : ℕ) (patterns others : List Pattern) → same_patterns patterns others ≡ true → fold with_pattern number patterns ≡ fold with_pattern number others
+same_numbers number [] [] h = refl
+same_numbers number [] (other ∷ others) h = absurd (cc)
+same_numbers number (pattern ∷ patterns) [] h = absurd (cc)
+same_numbers number (pattern ∷ patterns) (other ∷ others) h =
     let parts = both_so (same_pattern pattern other) (same_patterns patterns others) h in
-    class_is pattern patterns ∙ last_class pattern patterns other others parts.0 parts.1 ∙ sym (class_is other others)
-same_class (Virtual name) (Virtual other) h = ap (λ n. filing_number n 0) ((bytes_eq-Decides name other).0 h)
-same_class (Physical patterns) (Virtual other) h = absurd (cc)
-same_class (Virtual name) (Physical others) h = absurd (cc)
+    ap (λ n. fold with_pattern n patterns) (same_with_pattern number pattern other parts.0) ∙ same_numbers (with_pattern number other) patterns others parts.1
 
-pub under_its_number : (tag : List ℕ) (sequence : Sequence) (binding : Binding) → is_of tag sequence binding ≡ true → (number_of binding == filing_number tag (own_class sequence)) ≡ true
+same_number : (sequence other : Sequence) → same_sequence sequence other ≡ true → sequence_number sequence ≡ sequence_number other
+same_number (Physical patterns) (Physical others) h = same_numbers 0 patterns others h
+same_number (Virtual name) (Virtual other) h = ap (λ n. filing_number n 0) ((bytes_eq-Decides name other).0 h)
+same_number (Physical patterns) (Virtual other) h = absurd (cc)
+same_number (Virtual name) (Physical others) h = absurd (cc)
+
+pub under_its_number : (tag : List ℕ) (sequence : Sequence) (binding : Binding) → is_of tag sequence binding ≡ true → (whole_number binding == filing_number tag (sequence_number sequence)) ≡ true
 under_its_number tag sequence binding h =
     let parts = both_so (has_tag tag binding) (same_sequence binding.sequence sequence) h in
-    let is : number_of binding ≡ filing_number tag (own_class sequence) =
-    ap (λ t. filing_number t (own_class binding.sequence)) ((bytes_eq-Decides binding.tag tag).0 parts.0) ∙ ap (filing_number tag) (same_class binding.sequence sequence parts.1) in
+    let is : whole_number binding ≡ filing_number tag (sequence_number sequence) =
+    ap (λ t. filing_number t (sequence_number binding.sequence)) ((bytes_eq-Decides binding.tag tag).0 parts.0) ∙ ap (filing_number tag) (same_number binding.sequence sequence parts.1) in
     grind (arith, nat_tests, is)

@@ -1,22 +1,26 @@
--- Steps. A list of numbers, each with a stamp, and the stamps of each number by hashing.
+-- Steps. A list of two numbers at each place, each place with a stamp, and the stamps of each number by hashing.
 use Rattle.std.specs.Prelude.{◌≡◌, ◌<◌, ℕ, zero, suc, Bool, ◌==◌, nat_eq, if◌then◌else◌, List, [], ◌∷◌, map, filter, not}
 use Rattle.std.specs.Option.{option_map_or}
 use Rattle.std.specs.HashMap.{get}
 use Rattle.std.specs.HashMap.{HashMap}
 use Rattle.std.specs.Prelude.{Vec}
 use Rattle.tk_patterns.specs.declared.filed.Filed.{Filed}
+use Rattle.tk_patterns.specs.declared.filed.Numbers.{Numbers}
 
-abbrev pub numbers_of : List Filed → List ℕ
-numbers_of list = map (λ filed. filed.number) list
+abbrev pub numbers_of : List Filed → List Numbers
+numbers_of list = map (λ filed. filed.numbers) list
 
 -- the stamps of the numbers that are sought, in order
-abbrev pub stamps_of : (ℕ → Bool) → List Filed → List ℕ
+abbrev pub stamps_of : (Numbers → Bool) → List Filed → List ℕ
 stamps_of sought [] = []
-stamps_of sought (filed ∷ list) = if sought filed.number then filed.stamp ∷ stamps_of sought list else stamps_of sought list
+stamps_of sought (filed ∷ list) = if sought filed.numbers then filed.stamp ∷ stamps_of sought list else stamps_of sought list
 
--- those of one number
-abbrev pub stamps_under : ℕ → List Filed → List ℕ
-stamps_under number list = stamps_of (λ n. n == number) list
+-- those of one class, and those of one whole sequence
+abbrev pub has_class : ℕ → Numbers → Bool
+has_class number numbers = numbers.class == number
+
+abbrev pub has_whole : ℕ → Numbers → Bool
+has_whole number numbers = numbers.whole == number
 
 -- the stamp at a place
 abbrev pub HasStampAt : ℕ → ℕ → List Filed → Type 0

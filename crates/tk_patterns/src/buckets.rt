@@ -1,8 +1,8 @@
-ghost use Rattle.std.specs.Prelude.{◌≡◌, ◌≢◌, ◌<◌, ℕ, [], ◌∷◌, ◌++◌, length, Some, IfSome, OnOk, OnErr};
+ghost use Rattle.std.specs.Prelude.{◌≡◌, ◌≢◌, ◌<◌, ◌-◌, ℕ, [], ◌∷◌, ◌++◌, length, take, Some, IfSome, OnOk, OnErr};
 ghost use Rattle.std.specs.List.{remove};
-ghost use Rattle.tk_patterns.specs.Filed.{numbers_of, stamps_under, HasStampAt, bucket_in, stamp_under, without, IsRising};
+ghost use Rattle.tk_patterns.specs.Filed.{numbers_of, stamps_of, has_class, has_whole, HasStampAt, bucket_in, stamp_under, without, IsRising};
 
-use crate::filed::Filed;
+use crate::filed::{Filed, Numbers};
 use std::alloc::{AllocError, Global};
 use std::collections::HashMap;
 use std::marker::Model;
@@ -11,21 +11,24 @@ use std::marker::Model;
 #[derive(Drop)]
 pub struct Buckets {
     list: Vec<Filed>,
-    stamps: HashMap<u64, Vec<u64>>,
+    classes: HashMap<u64, Vec<u64>>,
+    wholes: HashMap<u64, Vec<u64>>,
     next: u64,
 }
 
 impl Model for Buckets {
     ghost use Rattle.std.specs.Prelude.{◌≡◌, ℕ, List};
     ghost use Rattle.tk_patterns.specs.declared.filed.Filed.{Filed};
-    ghost use Rattle.tk_patterns.specs.Filed.{stamps_under, bucket_in, IsRising, AllBelow};
+    ghost use Rattle.tk_patterns.specs.Filed.{stamps_of, has_class, has_whole, bucket_in, IsRising, AllBelow};
 
     ghost Value = { List Filed };
 
     ghost view = { λ b. b.list.items };
 
     ghost invariant = { λ b.
-        IsRising b.list.items × AllBelow b.next b.list.items × ((number : ℕ) → bucket_in b.stamps number ≡ stamps_under number b.list.items) };
+        (IsRising b.list.items × AllBelow b.next b.list.items)
+        × ((number : ℕ) → bucket_in b.classes number ≡ stamps_of (has_class number) b.list.items)
+        × ((number : ℕ) → bucket_in b.wholes number ≡ stamps_of (has_whole number) b.list.items) };
 }
 
 impl Buckets {
@@ -35,22 +38,23 @@ impl Buckets {
     {
         Buckets {
             list: Vec::new(alloc),
-            stamps: HashMap::new(alloc),
+            classes: HashMap::new(alloc),
+            wholes: HashMap::new(alloc),
             next: 0,
         }
     }
 
-    /// Files a number at a place behind all others. It is refused too once 2^64 - 1 numbers were filed.
-    pub fn push(&mut self, number: u64) -> Result<(), AllocError>
-        ensures ok { OnOk result (numbers_of self.new ≡ numbers_of self.old ++ number ∷ []) }
+    /// Files numbers at a place behind all others. It is refused too once 2^64 - 1 places were filed.
+    pub fn push(&mut self, numbers: Numbers) -> Result<(), AllocError>
+        ensures ok { OnOk result (numbers_of self.new ≡ numbers_of self.old ++ numbers ∷ []) }
         ensures err { OnErr result (self.new ≡ self.old) }
     {
         let stamp = self.next;
         if stamp == u64::MAX {
             return Err(AllocError);
         }
-        self.list.push(Filed { stamp, number })?;
-        match file(&mut self.stamps, number, stamp) {
+        self.list.push(Filed { stamp, numbers })?;
+        match file_both(&mut self.classes, &mut self.wholes, numbers, stamp) {
             Ok(()) => {
                 self.next = stamp + 1;
                 Ok(())
@@ -68,18 +72,24 @@ impl Buckets {
         ensures { self.new ≡ remove self.old place }
     {
         let filed = self.list.remove(place);
-        take_out(&mut self.stamps, filed.number, filed.stamp);
+        take_out(&mut self.classes, filed.numbers.class, filed.stamp);
+        take_out(&mut self.wholes, filed.numbers.whole, filed.stamp);
     }
 
-    /// The stamps of a number's places, in order.
-    pub fn stamps(&self, number: u64) -> &[u64]
-        ensures stamps { result.now ≡ stamps_under number self.now }
+    /// The stamps of the places of a class, in order.
+    pub fn of_class(&self, number: u64) -> &[u64]
+        ensures stamps { result.now ≡ stamps_of (has_class number) self.now }
         ensures rising { IsRising self.now }
     {
-        match self.stamps.get(&number) {
-            Some(stamps) => stamps.as_slice(),
-            None => &[],
-        }
+        stamps_in(&self.classes, number)
+    }
+
+    /// The stamps of the places of a whole sequence, in order.
+    pub fn of_whole(&self, number: u64) -> &[u64]
+        ensures stamps { result.now ≡ stamps_of (has_whole number) self.now }
+        ensures rising { IsRising self.now }
+    {
+        stamps_in(&self.wholes, number)
     }
 
     /// The place of a stamp; none where it stands nowhere.
@@ -93,6 +103,37 @@ impl Buckets {
     }
 }
 
+/// The stamps of a number.
+fn stamps_in(buckets: &HashMap<u64, Vec<u64>>, number: u64) -> &[u64]
+    ensures { result.now ≡ bucket_in buckets.now number }
+{
+    match buckets.get(&number) {
+        Some(stamps) => stamps.as_slice(),
+        None => &[],
+    }
+}
+
+/// Adds a stamp to those of a class and those of a whole sequence.
+fn file_both(
+    classes: &mut HashMap<u64, Vec<u64>>,
+    wholes: &mut HashMap<u64, Vec<u64>>,
+    numbers: Numbers,
+    stamp: u64,
+) -> Result<(), AllocError>
+    ensures classes { OnOk result ((other : ℕ) → bucket_in classes.new other ≡ bucket_in classes.old other ++ stamp_under other numbers.class stamp) }
+    ensures wholes { OnOk result ((other : ℕ) → bucket_in wholes.new other ≡ bucket_in wholes.old other ++ stamp_under other numbers.whole stamp) }
+    ensures err { OnErr result (((other : ℕ) → bucket_in classes.new other ≡ bucket_in classes.old other) × ((other : ℕ) → bucket_in wholes.new other ≡ bucket_in wholes.old other)) }
+{
+    file(classes, numbers.class, stamp)?;
+    match file(wholes, numbers.whole, stamp) {
+        Ok(()) => Ok(()),
+        Err(refused) => {
+            take_last(classes, numbers.class);
+            Err(refused)
+        }
+    }
+}
+
 /// Adds a stamp to those of a number.
 fn file(buckets: &mut HashMap<u64, Vec<u64>>, number: u64, stamp: u64) -> Result<(), AllocError>
     ensures ok { OnOk result ((other : ℕ) → bucket_in buckets.new other ≡ bucket_in buckets.old other ++ stamp_under other number stamp) }
@@ -100,6 +141,16 @@ fn file(buckets: &mut HashMap<u64, Vec<u64>>, number: u64, stamp: u64) -> Result
 {
     buckets.entry(number)?.or_default().push(stamp)?;
     Ok(())
+}
+
+/// Takes the last stamp out of those of a number.
+fn take_last(buckets: &mut HashMap<u64, Vec<u64>>, number: u64)
+    ensures own { bucket_in buckets.new number ≡ take (length (bucket_in buckets.old number) - 1) (bucket_in buckets.old number) }
+    ensures others { (other : ℕ) → other ≢ number → bucket_in buckets.new other ≡ bucket_in buckets.old other }
+{
+    if let Some(stamps) = buckets.get_mut(&number) {
+        stamps.pop();
+    }
 }
 
 /// Takes a stamp out of those of a number.

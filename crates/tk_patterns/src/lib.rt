@@ -24,7 +24,7 @@ pub use binding::Binding;
 pub use buckets::Buckets;
 pub use copies::{PatternCopy, copy_at, count_of};
 pub use fault::BindFault;
-pub use filed::Filed;
+pub use filed::{Filed, Numbers};
 pub use fitting::fits;
 pub use history::History;
 pub use laws::matches_is_match;

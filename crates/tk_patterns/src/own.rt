@@ -4,13 +4,13 @@ ghost use Rattle.std.specs.Option.{option_copied};
 ghost use Rattle.tk_patterns.specs.Own.{has_tag, is_of, binding_of, most_bindings, script_of, sequences_of, refuses, with_binding, without_binding, without_tag};
 ghost use Rattle.tk_patterns.specs.OwnSteps.{with_script_at};
 ghost use Rattle.tk_patterns.specs.Filed.{numbers_of};
-ghost use Rattle.tk_patterns.specs.Filing.{number_of};
+ghost use Rattle.tk_patterns.specs.Filing.{filed_under};
 ghost use Rattle.tk_patterns.specs.Winner.{winner};
 ghost use Rattle.tk_virtual.specs.Virtual.{meanings_of};
 
 use crate::binding::{Binding, has_tag, is_of};
 use crate::fault::BindFault;
-use crate::filing::number_of;
+use crate::filing::filed_under;
 use crate::seeking::{Wanted, place_of, script_at};
 use crate::winning::winner;
 use crate::{Buckets, History};
@@ -23,7 +23,8 @@ use tk_virtual::VirtualPairs;
 /// How many bindings an application has at most.
 const MAX_BINDINGS: usize = 4096;
 
-/// One application's bindings, in the order of registration, and by hashing where those of a tag, a type and a detail stand.
+/// One application's bindings, in the order of registration, and by hashing where those of a tag, a type and a detail stand, and where that of a tag
+/// and a sequence does.
 #[derive(Drop)]
 pub(crate) struct OwnBindings {
     bindings: Vec<Binding>,
@@ -35,13 +36,13 @@ impl Model for OwnBindings {
     ghost use Rattle.std.specs.Prelude.{◌≡◌, List, map};
     ghost use Rattle.tk_patterns.specs.Filed.{numbers_of};
     ghost use Rattle.tk_patterns.specs.declared.binding.Binding.{Binding};
-    ghost use Rattle.tk_patterns.specs.Filing.{number_of};
+    ghost use Rattle.tk_patterns.specs.Filing.{filed_under};
 
     ghost Value = { List Binding };
 
     ghost view = { λ o. o.bindings.items };
 
-    ghost invariant = { λ o. numbers_of o.filed ≡ map number_of o.bindings.items };
+    ghost invariant = { λ o. numbers_of o.filed ≡ map filed_under o.bindings.items };
 }
 
 impl OwnBindings {
@@ -116,9 +117,9 @@ impl OwnBindings {
         ensures ok { OnOk result (self.new ≡ self.old ++ binding ∷ []) }
         ensures err { OnErr result (self.new ≡ self.old) }
     {
-        let number = number_of(&binding);
+        let numbers = filed_under(&binding);
         add(&mut self.bindings, binding)?;
-        match self.filed.push(number) {
+        match self.filed.push(numbers) {
             Ok(()) => Ok(()),
             Err(_) => {
                 self.bindings.pop();
@@ -196,9 +197,9 @@ fn leave_out_binding(
     tag: &str,
     sequence: &Sequence,
 )
-    requires { numbers_of filed.old ≡ map number_of bindings.old.items }
+    requires { numbers_of filed.old ≡ map filed_under bindings.old.items }
     ensures bindings { bindings.new.items ≡ without_binding tag.now sequence.now bindings.old.items }
-    ensures filed { numbers_of filed.new ≡ map number_of bindings.new.items }
+    ensures filed { numbers_of filed.new ≡ map filed_under bindings.new.items }
 {
     let mut place = bindings.len();
     while place > 0 {
@@ -211,9 +212,9 @@ fn leave_out_binding(
 
 /// Takes out all bindings of a tag, the last place first.
 fn leave_out_tag(bindings: &mut Vec<Binding>, filed: &mut Buckets, tag: &str)
-    requires { numbers_of filed.old ≡ map number_of bindings.old.items }
+    requires { numbers_of filed.old ≡ map filed_under bindings.old.items }
     ensures bindings { bindings.new.items ≡ without_tag tag.now bindings.old.items }
-    ensures filed { numbers_of filed.new ≡ map number_of bindings.new.items }
+    ensures filed { numbers_of filed.new ≡ map filed_under bindings.new.items }
 {
     let mut place = bindings.len();
     while place > 0 {
@@ -227,9 +228,9 @@ fn leave_out_tag(bindings: &mut Vec<Binding>, filed: &mut Buckets, tag: &str)
 /// Takes out the binding at a place.
 fn take_out(bindings: &mut Vec<Binding>, filed: &mut Buckets, place: usize)
     requires first { place < length bindings.old.items }
-    requires filed { numbers_of filed.old ≡ map number_of bindings.old.items }
+    requires filed { numbers_of filed.old ≡ map filed_under bindings.old.items }
     ensures bindings { bindings.new.items ≡ remove bindings.old.items place }
-    ensures filed { numbers_of filed.new ≡ map number_of bindings.new.items }
+    ensures filed { numbers_of filed.new ≡ map filed_under bindings.new.items }
 {
     filed.remove(place);
     bindings.remove(place);

@@ -1,9 +1,9 @@
-//! The binding of a tag for a sequence, sought where such are filed.
-ghost use Rattle.std.specs.Prelude.{◌≡◌, ◌==◌, Bool, Some, find, map, option_map, position, slice_get};
+//! The binding of a tag for a sequence, sought by the number of its whole sequence.
+ghost use Rattle.std.specs.Prelude.{◌≡◌, Bool, Some, find, map, option_map, position, slice_get};
 ghost use Rattle.std.specs.Option.{option_copied};
 ghost use Rattle.tk_patterns.specs.declared.binding.Binding.{Binding};
-ghost use Rattle.tk_patterns.specs.Filed.{numbers_of, stamps_of, IsRising};
-ghost use Rattle.tk_patterns.specs.Filing.{filing_number, number_of, own_class};
+ghost use Rattle.tk_patterns.specs.Filed.{numbers_of, stamps_of, has_whole, IsRising};
+ghost use Rattle.tk_patterns.specs.Filing.{filed_under, filing_number, sequence_number};
 ghost use Rattle.tk_patterns.specs.Own.{is_of};
 ghost use Rattle.tk_patterns.specs.Same.{same_sequence};
 ghost use Rattle.tk_patterns.specs.Wanted.{sequence_of};
@@ -29,7 +29,7 @@ pub(crate) fn place_of(
     tag: &str,
     wanted: Wanted<'_>,
 ) -> Option<usize>
-    requires { numbers_of filed.now ≡ map number_of bindings.now }
+    requires { numbers_of filed.now ≡ map filed_under bindings.now }
     ensures { result ≡ position (is_of tag.now (sequence_of wanted.entry)) bindings.now }
 {
     let mut rest = stamps_of_wanted(filed, tag, wanted);
@@ -45,9 +45,9 @@ pub(crate) fn place_of(
     None
 }
 
-/// The stamps of a tag's bindings of one sequence, and of others of its class.
+/// The stamps of a tag's binding of one sequence, and of others that have its number by chance.
 fn stamps_of_wanted<'a>(filed: &'a Buckets, tag: &str, wanted: Wanted<'_>) -> &'a [u64]
-    ensures stamps { result.now ≡ stamps_of (λ number. number == filing_number tag.now (own_class (sequence_of wanted.entry))) filed.now }
+    ensures stamps { result.now ≡ stamps_of (has_whole (filing_number tag.now (sequence_number (sequence_of wanted.entry)))) filed.now }
     ensures rising { IsRising filed.now }
 {
     match wanted {

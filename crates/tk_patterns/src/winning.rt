@@ -3,7 +3,7 @@ ghost use Rattle.std.specs.Prelude.{◌≡◌, ℕ, false, Some, None, map, filt
 ghost use Rattle.std.specs.Option.{option_copied};
 ghost use Rattle.tk_patterns.specs.Filed.{numbers_of, stamps_of, HasStampAt, IsRising};
 ghost use Rattle.tk_patterns.specs.Rests.{first_of, earlier};
-ghost use Rattle.tk_patterns.specs.Filing.{number_of, has_both, is_number, is_number_of_names};
+ghost use Rattle.tk_patterns.specs.Filing.{filed_under, has_both, has_few, is_for_any, is_for_virtuals};
 ghost use Rattle.tk_patterns.specs.Shown.{shown};
 ghost use Rattle.tk_patterns.specs.Named.{of_matching, of_pairs};
 ghost use Rattle.tk_patterns.specs.Winner.{through, of_sequence, of_binding, candidates, replaced, held_at_last, winner};
@@ -13,7 +13,8 @@ ghost use Rattle.tk_virtual.specs.Virtual.{has_name, meanings_of};
 use crate::binding::{Binding, has_tag};
 use crate::candidate::{Contender, beats};
 use crate::filing::{
-    detail_of, has_both, stamps_of_any, stamps_of_button, stamps_of_key, stamps_of_names,
+    are_few, detail_of, has_both, stamps_of_any, stamps_of_button, stamps_of_key, stamps_of_names,
+    stamps_of_virtuals,
 };
 use crate::seeking::{Wanted, place_of, script_at};
 use crate::{Buckets, History, earlier, first_of, past};
@@ -32,7 +33,7 @@ pub(crate) fn winner<'a>(
     history: &History,
     virtuals: &'a VirtualPairs,
 ) -> Result<Option<&'a Text>, AllocError>
-    requires { numbers_of filed.now ≡ map number_of bindings.now }
+    requires { numbers_of filed.now ≡ map filed_under bindings.now }
     ensures { IfOk result (λ script. option_copied script ≡ winner (meanings_of virtuals.now) tag.now event.now history.now bindings.now) }
 {
     match &event.kind {
@@ -54,8 +55,8 @@ fn script_held<'a>(holder: Option<Contender<'a>>) -> Option<&'a Text>
     Some(holder?.script)
 }
 
-/// Who holds after all candidates of a tag. They are found where those for the event's key, for its button, for any, and for the virtual events that
-/// have pairs for these are filed.
+/// Who holds after all candidates of a tag. They are found where those for the event's key, for its button, for any, and for virtual events are
+/// filed: of the last all are gone through where they are few, or else the names are looked up that have pairs for the event.
 fn holder_of<'a>(
     alloc: Global,
     bindings: &'a [Binding],
@@ -66,12 +67,18 @@ fn holder_of<'a>(
     history: &History,
     virtuals: &'a VirtualPairs,
 ) -> Result<Option<Contender<'a>>, AllocError>
-    requires filed { numbers_of filed.now ≡ map number_of bindings.now }
+    requires filed { numbers_of filed.now ≡ map filed_under bindings.now }
     requires kind { event.now.kind ≡ EventKind.Physical kind }
     ensures { IfOk result (λ holder. option_map shown holder
         ≡ held_at_last None (candidates event.now history.now (meanings_of virtuals.now) tag.now bindings.now)) }
 {
     let any = stamps_of_any(filed, tag, kind);
+    let own = stamps_of_virtuals(filed, tag);
+    if are_few(own.len(), kind, event, virtuals) {
+        return Ok(holder_among(
+            bindings, filed, any, own, kind, tag, event, history, virtuals,
+        ));
+    }
     let names = stamps_of_names(alloc, filed, tag, kind, event, virtuals)?;
     let named = names.as_slice();
     Ok(holder_among(
@@ -92,10 +99,10 @@ fn holder_among<'a>(
     history: &History,
     virtuals: &'a VirtualPairs,
 ) -> Option<Contender<'a>>
-    requires filed { numbers_of filed.now ≡ map number_of bindings.now }
+    requires filed { numbers_of filed.now ≡ map filed_under bindings.now }
     requires rising { IsRising filed.now }
-    requires any { any.now ≡ stamps_of (is_number tag.now kind None) filed.now }
-    requires named { named.now ≡ stamps_of (is_number_of_names tag.now kind event.now virtuals.now) filed.now }
+    requires any { any.now ≡ stamps_of (is_for_any tag.now kind) filed.now }
+    requires named { named.now ≡ stamps_of (is_for_virtuals (has_few tag.now kind event.now virtuals.now filed.now) tag.now kind event.now virtuals.now) filed.now }
     requires kind { event.now.kind ≡ EventKind.Physical kind }
     ensures { option_map shown result
         ≡ held_at_last None (candidates event.now history.now (meanings_of virtuals.now) tag.now bindings.now) }

@@ -1,6 +1,7 @@
 -- The fields that are a pattern's are read as it, and those at fault give their fault.
 use Rattle.std.proofs.Common.{◌≡◌, inl, inr, ℕ, ◌||◌, Bool, true, false, cond, List, [], ◌∷◌, ◌++◌, append_assoc, Option, Some, None, Ok, Err, refl, sym, ap, ◌∙◌, subst}
 use Rattle.std.specs.Prelude.{bit_or}
+use Rattle.tk_base.specs.Steps.{◌>>=◌}
 use Rattle.tk_sequences.proofs.FieldsCut.{AreInside}
 use Rattle.tk_sequences.proofs.KnownWords.{type_inside, type_no_prefix, button_inside, button_no_prefix, button_no_type, modifier_inside, modifier_prefix, repetition_inside, repetition_prefix, key_word, is_inside_word, none_prefix, key_is, none_meant, single_isnt, may_come_is, may_repeat_isnt}
 use Rattle.tk_sequences.proofs.ReadLemmas.{always}
@@ -12,7 +13,7 @@ use Rattle.tk_sequences.specs.Grammar.IsAlone.{a_key as key_alone, a_button as b
 use Rattle.tk_sequences.specs.Grammar.IsEvent.{type_alone, type_and_detail, detail_alone}
 use Rattle.tk_sequences.specs.Grammar.IsFaultyEvent.{missing, repeated, unknown, behind_alone, uncounted, no_detail as bad_detail, no_key as bad_key, no_button as bad_button, behind_both}
 use Rattle.tk_sequences.specs.Modifiers.{modifier_bit}
-use Rattle.tk_sequences.specs.Reading.{OrFault, ◌>>=◌, prefix_named, key_meant, key_or_fault, button_or_fault, detail_of, detail_behind, may_repeat, typed, button_or_key, alone, untyped, typed_or_not, headed, with_prefix, pattern_behind}
+use Rattle.tk_sequences.specs.Reading.{OrFault, prefix_named, key_meant, key_or_fault, button_or_fault, detail_of, detail_behind, may_repeat, typed, button_or_key, alone, untyped, typed_or_not, headed, with_prefix, pattern_behind}
 use Rattle.tk_sequences.specs.Words.{button_named, is_single}
 use Rattle.tk_sequences.specs.Types.{type_named, is_key_type, is_button_type}
 use Rattle.tk_sequences.specs.declared.detail.Detail.{Detail}

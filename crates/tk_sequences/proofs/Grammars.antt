@@ -3,6 +3,7 @@ use Rattle.std.proofs.Common.{◌≡◌, ◌≢◌, ◌⊎◌, inl, inr, ℕ, �
 use Rattle.std.specs.Str.{bytes_eq}
 use Rattle.std.proofs.lemmas.Bool.{cases_lt, ne_eqb, eqb-false}
 use Rattle.std.proofs.lemmas.Bool.Decides.{nat_tests}
+use Rattle.tk_base.specs.Steps.{◌>>=◌}
 use Rattle.tk_sequences.proofs.PatternsCut.{Ends, ends, fails, TextCut, text_cut}
 use Rattle.tk_sequences.proofs.PatternsRead.{begins_read, many_read, gap_ends, fault_behind, gap_black, begins_black}
 use Rattle.tk_sequences.proofs.ReadBack.{name_is_text}
@@ -12,7 +13,7 @@ use Rattle.tk_sequences.specs.Grammar.{IsGap, HasNoClosing, BeginsWith, IsVirtua
 use Rattle.tk_sequences.specs.Laws.{SequencesAreRead, FaultsAreTold, IsOneOrOther, IsOneSequence, IsOneFault, IsNotBoth}
 use Rattle.tk_sequences.proofs.NameLemmas.{name_in_some, name_in_none}
 use Rattle.tk_sequences.specs.Patterns.{count_of}
-use Rattle.tk_sequences.specs.Reading.{OrFault, ◌>>=◌, Between, patterns_from, some_patterns, physical, begins_with_bracket, has_brackets, named_or_physical, read_sequence}
+use Rattle.tk_sequences.specs.Reading.{OrFault, Between, patterns_from, some_patterns, physical, begins_with_bracket, has_brackets, named_or_physical, read_sequence}
 use Rattle.tk_sequences.specs.Words.{in_brackets, is_some_text, has_no_closing, is_name, middle, name_in}
 use Rattle.tk_sequences.specs.declared.fault.SequenceFault.{SequenceFault}
 use Rattle.tk_sequences.specs.declared.fault.SequenceFault.TheVariants.{BadSequence}

@@ -3,12 +3,13 @@ use Rattle.std.proofs.Common.{◌≡◌, ◌≢◌, ℕ, ◌≤◌, ◌==◌, �
 use Rattle.std.specs.List.{list_all}
 use Rattle.std.specs.Str.{bytes_eq}
 use Rattle.std.proofs.lemmas.Slice.Eq.{bytes_eq-Decides}
+use Rattle.tk_base.specs.Steps.{◌>>=◌}
 use Rattle.tk_sequences.proofs.ReadLemmas.{if_by, then_by, AllRead, AreRead, patterns_read}
 use Rattle.tk_sequences.proofs.WordLemmas.{is_inside, both_first, both_second, isnt}
 use Rattle.tk_sequences.proofs.WrittenLemmas.{inner_of, pattern_is, inner_inside, patterns_back}
 use Rattle.tk_sequences.proofs.NameLemmas.{name_in_none}
 use Rattle.tk_sequences.specs.Patterns.{count_of}
-use Rattle.tk_sequences.specs.Reading.{OrFault, ◌>>=◌, Between, patterns_from, some_patterns, physical, begins_with_bracket, has_brackets, named_or_physical, read_sequence}
+use Rattle.tk_sequences.specs.Reading.{OrFault, Between, patterns_from, some_patterns, physical, begins_with_bracket, has_brackets, named_or_physical, read_sequence}
 use Rattle.tk_sequences.specs.Words.{in_brackets, is_name, middle, name_in}
 use Rattle.tk_sequences.specs.Writing.{patterns_written, canonical}
 use Rattle.tk_sequences.specs.declared.fault.SequenceFault.TheVariants.{BadSequence}

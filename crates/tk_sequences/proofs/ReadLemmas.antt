@@ -7,6 +7,7 @@ use Rattle.std.specs.Str.{bytes_eq}
 use Rattle.std.proofs.lemmas.Bool.Decides.{nat_tests}
 use Rattle.std.proofs.lemmas.List.Quantifiers.{position-Some}
 use Rattle.std.proofs.lemmas.List.Sums.{sum_by-cons}
+use Rattle.tk_base.specs.Steps.{◌>>=◌}
 use Rattle.tcl_text.specs.Backslash.{is_white}
 use Rattle.tk_sequences.proofs.HeldLemmas.{IsHeld, held_more}
 use Rattle.tk_sequences.proofs.WordLemmas.{is_word}
@@ -14,7 +15,7 @@ use Rattle.tk_base.proofs.NamesLemmas.{length_all_names}
 use Rattle.tk_base.specs.Names.{all_names, key_named, key_of_character}
 use Rattle.tk_sequences.specs.Modifiers.{modifier_bit}
 use Rattle.tk_sequences.specs.Patterns.{count_of, times_of}
-use Rattle.tk_sequences.specs.Reading.{OrFault, ◌>>=◌, fields, prefix_named, key_of_one, key_meant, key_or_fault, button_or_fault, detail_of, detail_behind, may_repeat, typed, button_or_key, type_of_detail, alone, untyped, typed_or_not, headed, with_prefix, pattern_behind, pattern_of, plain_key, plain_pattern, ReadingPlace, Between, Within, onto, counted, patterns_from}
+use Rattle.tk_sequences.specs.Reading.{OrFault, fields, prefix_named, key_of_one, key_meant, key_or_fault, button_or_fault, detail_of, detail_behind, may_repeat, typed, button_or_key, type_of_detail, alone, untyped, typed_or_not, headed, with_prefix, pattern_behind, pattern_of, plain_key, plain_pattern, ReadingPlace, Between, Within, onto, counted, patterns_from}
 use Rattle.tk_sequences.specs.Words.{button_named, is_single}
 use Rattle.tk_sequences.specs.Types.{type_named, is_key_type, is_button_type}
 use Rattle.tk_sequences.specs.declared.detail.Detail.{Detail}

@@ -3,6 +3,7 @@
 use Rattle.std.specs.Prelude.{◌≡◌, ℕ, ◌+◌, ◌-◌, Bool, false, ◌&&◌, ◌||◌, ◌==◌, nat_le, bit_or, if◌then◌else◌, List, [], ◌∷◌, ◌++◌, drop, filter, Option, Some, None, option_map, Result, Ok, Err}
 use Rattle.std.specs.List.{prefix_len, slice_split}
 use Rattle.std.specs.Option.{option_or}
+use Rattle.tk_base.specs.Steps.{◌>>=◌}
 use Rattle.tcl_text.specs.Backslash.{is_white}
 use Rattle.tk_base.specs.Names.{key_named, key_of_character}
 use Rattle.tk_sequences.specs.Modifiers.{modifier_named, modifier_bit}
@@ -27,12 +28,6 @@ use Rattle.tk_sequences.specs.declared.reading.Prefix.TheVariants as prefixes
 -- what was read, or why it was refused
 abbrev pub OrFault : Type 0 → Type 0
 OrFault T = Result T SequenceFault
-
--- the rest of a reading, unless a step before it was refused
-infixl 10 ◌>>=◌
-abbrev pub ◌>>=◌ : {T U : Type 0} → OrFault T → (T → OrFault U) → OrFault U
-Ok value >>= rest = rest value
-Err fault >>= rest = Err fault
 
 -- ---- the fields of a pattern in brackets
 

@@ -71,10 +71,9 @@ impl Debug for SequenceFault {
 }
 
 impl From<AllocError> for SequenceFault {
-    ghost use Rattle.std.specs.Prelude.{◌≡◌};
-    ghost use Rattle.tk_sequences.specs.declared.fault.SequenceFault.TheVariants.{NoMemory};
+    ghost use Rattle.tk_sequences.specs.declared.fault.SequenceFault.{SequenceFault};
 
-    ghost from_gives = { λ _ e. e ≡ NoMemory };
+    ghost from_gives = { λ _ e. e ≡ SequenceFault.NoMemory };
 
     fn from(_refused: AllocError) -> SequenceFault {
         SequenceFault::NoMemory
@@ -82,10 +81,9 @@ impl From<AllocError> for SequenceFault {
 }
 
 impl<T: Drop> From<AllocFailed<T>> for SequenceFault {
-    ghost use Rattle.std.specs.Prelude.{◌≡◌};
-    ghost use Rattle.tk_sequences.specs.declared.fault.SequenceFault.TheVariants.{NoMemory};
+    ghost use Rattle.tk_sequences.specs.declared.fault.SequenceFault.{SequenceFault};
 
-    ghost from_gives = { λ _ e. e ≡ NoMemory };
+    ghost from_gives = { λ _ e. e ≡ SequenceFault.NoMemory };
 
     fn from(_refused: AllocFailed<T>) -> SequenceFault {
         SequenceFault::NoMemory

@@ -133,6 +133,13 @@ impl Modifiers {
         }
     }
 
+    /// Their bits, as those of a state.
+    pub fn bits(self) -> u16
+        ensures { result ≡ self }
+    {
+        self.bits
+    }
+
     /// Whether it is among them.
     pub fn has(self, modifier: Modifier) -> bool
         ensures { result ≡ has_modifier self modifier }

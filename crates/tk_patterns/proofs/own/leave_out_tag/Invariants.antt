@@ -1,7 +1,7 @@
 use Rattle.std.proofs.Common.{◌≡◌, ◌≤◌, not, length, map}
 use Rattle.tk_patterns.specs.Filed.{numbers_of}
 use Rattle.tk_patterns.specs.declared.binding.Binding.{Binding}
-use Rattle.tk_patterns.specs.Filing.{number_of}
+use Rattle.tk_patterns.specs.Filing.{filed_under}
 use Rattle.tk_patterns.specs.Own.{has_tag}
 use Rattle.tk_patterns.proofs.KeptLemmas.{out_from}
 use Rattle.tk_patterns.proofs.own.leave_out_tag.Given as goal
@@ -11,7 +11,7 @@ abbrev pub invariant-loop-place : goal.invariant-loop-place
 invariant-loop-place l = record {
   within : l.place ≤ length l.fn.bindings.items;
   left : l.bindings.items ≡ out_from (λ (b : Binding). not (has_tag l.tag b)) l.place l.fn.bindings.items;
-  filed : numbers_of l.filed ≡ map number_of l.bindings.items;
+  filed : numbers_of l.filed ≡ map filed_under l.bindings.items;
 }
 
 abbrev pub decreases-loop-place : goal.decreases-loop-place

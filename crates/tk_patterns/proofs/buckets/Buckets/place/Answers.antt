@@ -12,7 +12,7 @@ returns-clause-found c =
     let whole : c.deref.result.now ≡ c.args.self.now = c.deref.ensures.value ∙ c.self.view_is in
     λ place there.
     c.ok.ensures.value
-    ∙ found_there c.deref.result.now (subst IsRising (sym c.deref.ensures.value) c.self.invariant.0) c.args.stamp c.binary_search_by_key.result facts.bound by_stamp place (subst (HasStampAt place c.args.stamp) (sym whole) there)
+    ∙ found_there c.deref.result.now (subst IsRising (sym c.deref.ensures.value) c.self.invariant.0.0) c.args.stamp c.binary_search_by_key.result facts.bound by_stamp place (subst (HasStampAt place c.args.stamp) (sym whole) there)
 
 pub returns-clause-there : goal.returns-clause-there
 returns-clause-there c =

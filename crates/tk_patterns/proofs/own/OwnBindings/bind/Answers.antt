@@ -3,7 +3,8 @@ use Rattle.std.specs.Prelude.{position}
 use Rattle.tk_patterns.specs.declared.fault.BindFault.TheVariants.{Full, NoMemory}
 use Rattle.tk_patterns.specs.Own.{is_of}
 use Rattle.tk_patterns.specs.OwnSteps.{with_script_at}
-use Rattle.tk_patterns.specs.Filing.{number_of}
+use Rattle.tk_patterns.specs.Filing.{filed_under, filing_number, sequence_number}
+use Rattle.tk_virtual.specs.Classes.{sequence_class}
 use Rattle.tk_patterns.proofs.KeptLemmas.{numbers_again}
 use Rattle.tk_patterns.proofs.BindLemmas.{found_not_refused, again_there, none_refuses, added_there}
 use Rattle.tk_patterns.proofs.own.OwnBindings.bind.Goals as goal
@@ -40,4 +41,10 @@ returns-in-None-clause-ok c =
     c.add.ensures.ok
 
 pub invariant_of-self : goal.invariant_of-self
-invariant_of-self c = c.self.invariant ∙ sym (ap (map number_of) c.set_script.ensures ∙ numbers_again c.self.inside.bindings.items c.in-Some.place c.script_in-script.result)
+invariant_of-self c =
+    let own = c.self.inside.bindings.items in
+    let place = c.in-Some.place in
+    let script = c.script_in-script.result in
+    c.self.invariant
+    ∙ sym (ap (map filed_under) c.set_script.ensures
+    ∙ numbers_again (λ tag sequence. record { class = filing_number tag (sequence_class sequence); whole = filing_number tag (sequence_number sequence) }) own place script)

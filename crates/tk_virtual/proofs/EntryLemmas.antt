@@ -9,9 +9,11 @@ use Rattle.indexmap.proofs.CallerLemmas.{keys-shift_remove_entry}
 use Rattle.indexmap.specs.IndexMap.{insert_entry}
 use Rattle.indexmap.specs.IndexSet.{remove_key}
 use Rattle.tk_virtual.specs.First.{Marked, marked, marking_first}
+use Rattle.tk_virtual.specs.Several.{is_one_of, without_these}
 use Rattle.tk_virtual.specs.Virtual.{has_name, is_same, without_name, without_pair}
 use Rattle.tk_virtual.specs.declared.pair.Pair.{Pair}
-use Rattle.tk_virtual.proofs.FirstLemmas.{marked_last, marked_unnamed, marked_without, pairs_marked}
+use Rattle.tk_virtual.proofs.FirstLemmas.{marked_last, marked_left, marked_unnamed, marked_without, pairs_marked}
+use Rattle.tk_virtual.proofs.NamedLemmas.{another_stays}
 use Rattle.tk_virtual.proofs.PairLemmas.{removed}
 
 -- ---- a pair more
@@ -63,6 +65,15 @@ module _ (wanted : Pair) (entries out : List Marked) (is : out ≡ remove_entry 
       ∙ ap (marking_first (filter (has_name wanted.name) (remove_key (is_same wanted) (keys_of entries)))) (is ∙ ap (remove_entry (is_same wanted)) marks)
       ∙ marked_without wanted (keys_of entries)
       ∙ ap marked gone_once
+
+-- several of a name are taken out, and the one that is the first of it then is marked
+pub without_these_marks : (gone : List ℕ) (wanted : List Pair) (entries out new : List Marked) (named : List Pair) → entries ≡ marked (keys_of entries)
+    → out ≡ filter (λ (entry : Marked). not (is_one_of gone wanted entry.0)) entries → named ≡ filter (has_name gone) (without_these gone wanted (keys_of entries))
+    → new ≡ marking_first named out → new ≡ marked (without_these gone wanted (keys_of entries))
+without_these_marks gone wanted entries out new named marks is left marking =
+    marking ∙ ap (λ l. marking_first l out) left
+    ∙ ap (marking_first (filter (has_name gone) (without_these gone wanted (keys_of entries)))) (is ∙ ap (filter (λ (entry : Marked). not (is_one_of gone wanted entry.0))) marks)
+    ∙ marked_left gone (λ pair. not (is_one_of gone wanted pair)) (another_stays gone wanted) (keys_of entries)
 
 -- the pair that goes
 pub found_key : (test : Pair → Bool) (entries : List Marked) → lookup_key test entries ≡ find test (keys_of entries)

@@ -220,6 +220,71 @@ pub marked_without : (wanted : Pair) (pairs : List Pair)
     → marking_first (filter (has_name wanted.name) (remove_key (is_same wanted) pairs)) (remove_entry (is_same wanted) (marked pairs)) ≡ marked (remove_key (is_same wanted) pairs)
 marked_without wanted pairs = one_out wanted (λ name. false) refl pairs
 
+-- ---- several of a name are taken out, and the first of those that are left is marked
+
+module _ (gone : List ℕ) (stays : Pair → Bool) (spared : (pair : Pair) → has_name gone pair ≡ false → stays pair ≡ true) where
+  of_gone : (pair : Pair) → stays pair ≡ false → pair.name ≡ gone
+  of_gone pair out = by (has_name gone pair) refl
+    where
+      by : (t : Bool) → has_name gone pair ≡ t → pair.name ≡ gone
+      by true has = of_name gone pair has
+      by false apart = absurd (true≢false (sym (spared pair apart) ∙ out))
+
+  abbrev left : List Marked → List Marked
+  left entries = filter (λ (entry : Marked). stays entry.0) entries
+
+  -- where one of the name stands before, the others keep their marks
+  later_left : (before : Before) → before gone ≡ true → (pairs : List Pair) → left (marked_behind before pairs) ≡ marked_behind before (filter stays pairs)
+  later_left before known [] = refl
+  later_left before known (pair ∷ pairs) = by (stays pair) refl (later_left (λ name. before name || has_name name pair) (ap (λ t. t || has_name gone pair) known) pairs)
+    where
+      by : (t : Bool) → stays pair ≡ t
+          → left (marked_behind (λ name. before name || has_name name pair) pairs) ≡ marked_behind (λ name. before name || has_name name pair) (filter stays pairs)
+          → cond t ((pair, not (before pair.name)) ∷ left (marked_behind (λ name. before name || has_name name pair) pairs)) (left (marked_behind (λ name. before name || has_name name pair) pairs))
+          ≡ marked_behind before (cond t (pair ∷ filter stays pairs) (filter stays pairs))
+      by true is rest = ap (λ (l : List Marked). (pair, not (before pair.name)) ∷ l) rest
+      by false is rest =
+          rest ∙ same_marks (λ name. before name || has_name name pair) before (no_news before pair.name (ap before (of_gone pair is) ∙ known)) (filter stays pairs)
+
+  some_out : (before : Before) → before gone ≡ false → (pairs : List Pair) → marking_first (filter (has_name gone) (filter stays pairs)) (left (marked_behind before pairs)) ≡ marked_behind before (filter stays pairs)
+  some_out before none [] = refl
+  some_out before none (pair ∷ pairs) = by (stays pair) refl (λ none. some_out (λ name. before name || has_name name pair) none pairs)
+    where
+      marks : List Marked
+      marks = left (marked_behind (λ name. before name || has_name name pair) pairs)
+
+      kept : List Pair
+      kept = filter stays pairs
+
+      stands : (t : Bool) → has_name gone pair ≡ t
+          → ((before gone || has_name gone pair) ≡ false → marking_first (filter (has_name gone) kept) marks ≡ marked_behind (λ name. before name || has_name name pair) kept)
+          → marking_first (cond t (pair ∷ filter (has_name gone) kept) (filter (has_name gone) kept)) ((pair, not (before pair.name)) ∷ marks)
+          ≡ (pair, not (before pair.name)) ∷ marked_behind (λ name. before name || has_name name pair) kept
+      stands true is rest =
+          ap (λ t. cond t ((pair, true) ∷ marks) ((pair, not (before pair.name)) ∷ set_value (is_same pair) marks true)) (same_itself pair)
+          ∙ ap (λ (l : List Marked). (pair, true) ∷ l) (later_left (λ name. before name || has_name name pair) (ap (λ t. before gone || t) is ∙ ap (λ t. t || true) none) pairs)
+          ∙ ap (λ t. (pair, not t) ∷ marked_behind (λ name. before name || has_name name pair) kept) (sym (ap before (of_name gone pair is) ∙ none))
+      stands false apart rest =
+          marking_past gone pair (not (before pair.name)) apart kept marks
+          ∙ ap (λ (l : List Marked). (pair, not (before pair.name)) ∷ l) (rest (ap (λ t. t || has_name gone pair) none ∙ apart))
+
+      goes : pair.name ≡ gone → marking_first (filter (has_name gone) kept) marks ≡ marked_behind before kept
+      goes same =
+          let known : (before gone || has_name gone pair) ≡ true =
+          ap (λ name. before gone || bytes_eq name gone) same ∙ ap (λ t. before gone || t) ((bytes_eq-Decides gone gone).1 refl) ∙ ap (λ t. t || true) none in
+          ap (marking_first (filter (has_name gone) kept)) (later_left (λ name. before name || has_name name pair) known pairs)
+          ∙ ap (λ known. marking_first (filter (has_name gone) kept) (marked_behind (λ name. before name || bytes_eq known name) kept)) same
+          ∙ next_marked gone before none kept
+
+      by : (t : Bool) → stays pair ≡ t
+          → ((before gone || has_name gone pair) ≡ false → marking_first (filter (has_name gone) kept) marks ≡ marked_behind (λ name. before name || has_name name pair) kept)
+          → marking_first (filter (has_name gone) (cond t (pair ∷ kept) kept)) (cond t ((pair, not (before pair.name)) ∷ marks) marks) ≡ marked_behind before (cond t (pair ∷ kept) kept)
+      by true is rest = stands (has_name gone pair) refl rest
+      by false is rest = goes (of_gone pair is)
+
+  pub marked_left : (pairs : List Pair) → marking_first (filter (has_name gone) (filter stays pairs)) (left (marked pairs)) ≡ marked (filter stays pairs)
+  marked_left pairs = some_out (λ name. false) refl pairs
+
 -- ---- the names
 
 any_last : (name one : List ℕ) (names : List (List ℕ)) → list_any (λ other. bytes_eq other name) (names ++ one ∷ []) ≡ (list_any (λ other. bytes_eq other name) names || bytes_eq one name)

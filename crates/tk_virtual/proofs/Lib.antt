@@ -6,3 +6,4 @@ pub mod NamedLemmas
 pub mod OnceLemmas
 pub mod PairLemmas
 pub mod SameLemmas
+pub mod SeveralLemmas

@@ -1,12 +1,14 @@
 -- The pairs of each name beside all of them.
-use Rattle.std.proofs.Common.{◌≡◌, ◌≢◌, ℕ, Bool, true, false, true≢false, cond, not, List, [], ◌∷◌, ◌++◌, append-nil, Option, Some, Result, Ok, Err, OnErr, Vec, String, string_bytes, string_eq, refl, sym, ap, subst, ◌∙◌}
+use Rattle.std.proofs.Common.{◌≡◌, ◌≢◌, ℕ, Bool, true, false, true≢false, cond, not, ◌&&◌, List, [], ◌∷◌, ◌++◌, append-nil, Option, Some, Result, Ok, Err, OnErr, Vec, String, string_bytes, string_eq, refl, sym, ap, subst, ◌∙◌}
 use Rattle.std.specs.Prelude.{filter}
 use Rattle.std.specs.HashMap.{HashMap, UpdatesBy, get_by_text}
+use Rattle.std.specs.List.{list_any}
 use Rattle.std.specs.Option.{option_map_or}
 use Rattle.std.specs.Str.{bytes_eq}
 use Rattle.std.proofs.lemmas.Map.Text.{hash_map_updates_text}
 use Rattle.std.proofs.lemmas.Slice.Eq.{bytes_eq-Decides}
 use Rattle.tk_virtual.specs.Named.{listed}
+use Rattle.tk_virtual.specs.Several.{is_one_of, without_these}
 use Rattle.tk_virtual.specs.Virtual.{has_name, is_same, without_name, without_pair}
 use Rattle.tk_virtual.specs.declared.pair.Pair.{Pair}
 use Rattle.tk_virtual.proofs.SameLemmas.{same_parts}
@@ -59,6 +61,10 @@ differs x y apart = by (bytes_eq x y) refl
     by : (t : Bool) → bytes_eq x y ≡ t → t ≡ false
     by true is = absurd (apart ((bytes_eq-Decides x y).0 is))
     by false is = refl
+
+-- a pair of another name is none of these
+pub another_stays : (name : List ℕ) (wanted : List Pair) (pair : Pair) → has_name name pair ≡ false → not (is_one_of name wanted pair) ≡ true
+another_stays name wanted pair apart = ap (λ t. not (t && list_any (is_same pair) wanted)) apart
 
 -- ---- what a map lists after the list of one name was changed
 
@@ -127,3 +133,18 @@ module _ (pairs : List Pair) (old new : List ℕ → List Pair) (was : (name : L
       by false apart =
           others name (λ is. true≢false (sym ((bytes_eq-Decides name gone).1 is) ∙ apart)) ∙ was name
           ∙ sym (kept_all (λ pair. not (has_name gone pair)) (has_name name) (λ pair has. ap not (ap (λ n. bytes_eq n gone) (of_name name pair has) ∙ apart)) pairs)
+
+  -- several pairs of a name are taken out of those of it
+  pub listed_without_these : (gone : List ℕ) (wanted : List Pair) → new gone ≡ without_these gone wanted (old gone) → ((other : List ℕ) → other ≢ gone → new other ≡ old other)
+      → (name : List ℕ) → new name ≡ filter (has_name name) (without_these gone wanted pairs)
+  listed_without_these gone wanted own others name = by (bytes_eq name gone) refl
+    where
+      mine : new gone ≡ filter (has_name gone) (without_these gone wanted pairs)
+      mine = own ∙ ap (without_these gone wanted) (was gone) ∙ filters_commute (λ pair. not (is_one_of gone wanted pair)) (has_name gone) pairs
+
+      by : (t : Bool) → bytes_eq name gone ≡ t → new name ≡ filter (has_name name) (without_these gone wanted pairs)
+      by true same = subst (λ n. new n ≡ filter (has_name n) (without_these gone wanted pairs)) (sym ((bytes_eq-Decides name gone).0 same)) mine
+      by false apart =
+          others name (λ is. true≢false (sym ((bytes_eq-Decides name gone).1 is) ∙ apart)) ∙ was name
+          ∙ sym (kept_all (λ pair. not (is_one_of gone wanted pair)) (has_name name)
+          (λ pair has. another_stays gone wanted pair (ap (λ n. bytes_eq n gone) (of_name name pair has) ∙ apart)) pairs)

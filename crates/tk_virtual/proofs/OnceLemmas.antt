@@ -15,7 +15,7 @@ equal_back one other =
     let back = bytes_eq-Decides other one in
     one_answer (bytes_eq one other) (bytes_eq other one) (bytes_eq-Decides one other) (λ t. sym (back.0 t), λ is. back.1 (sym is))
 
-same_back : (one other : Pair) → is_same one other ≡ is_same other one
+pub same_back : (one other : Pair) → is_same one other ≡ is_same other one
 same_back one other = rw (equal_back other.name one.name, equal_back (canonical other.sequence) (canonical one.sequence)) refl
 
 -- none before a pair is the same

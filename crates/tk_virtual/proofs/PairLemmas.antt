@@ -7,7 +7,8 @@ use Rattle.indexmap.specs.IndexSet.{insert_key, remove_key}
 use Rattle.std.proofs.lemmas.Bool.Decides.{nat_tests}
 use Rattle.std.proofs.lemmas.List.{at_drop_more, take-append-le, take-append-drop, length-take}
 use Rattle.std.proofs.Math.Seq.{take-append_seam}
-use Rattle.tk_virtual.specs.Virtual.{OrFault, ◌>>=◌, added, all_added, is_same, with_pair, without_pair}
+use Rattle.tk_base.specs.Steps.{◌>>=◌}
+use Rattle.tk_virtual.specs.Virtual.{OrFault, added, all_added, is_same, with_pair, without_pair}
 use Rattle.tk_virtual.specs.declared.fault.VirtualFault.TheVariants.{Full}
 use Rattle.tk_virtual.specs.declared.pair.Pair.{Pair}
 use Rattle.tk_virtual.proofs.SameLemmas.{same_itself}

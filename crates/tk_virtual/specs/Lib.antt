@@ -4,5 +4,6 @@ pub mod FaultTexts
 pub mod First
 pub mod Named
 pub mod Parse
+pub mod Several
 pub mod Shared
 pub mod Virtual

@@ -2,6 +2,7 @@
 use Rattle.std.specs.Prelude.{ℕ, Bool, ◌&&◌, not, nat_le, if◌then◌else◌, List, [], ◌∷◌, ◌++◌, length, map, filter, fold, Option, Some, None, Result, Ok, Err}
 use Rattle.std.specs.List.{list_any}
 use Rattle.std.specs.Str.{bytes_eq}
+use Rattle.tk_base.specs.Steps.{◌>>=◌}
 use Rattle.tk_virtual.specs.Parse.{parsed}
 use Rattle.tk_sequences.specs.Words.{in_brackets, name_in}
 use Rattle.tk_sequences.specs.Writing.{canonical}
@@ -15,12 +16,6 @@ use Rattle.tk_virtual.specs.declared.pair.Pair.{Pair}
 
 abbrev pub OrFault : Type 0 → Type 0
 OrFault T = Result T VirtualFault
-
--- the rest, unless what comes before it was refused
-infixl 10 ◌>>=◌
-abbrev pub ◌>>=◌ : {T U : Type 0} → OrFault T → (T → OrFault U) → OrFault U
-Ok value >>= rest = rest value
-Err fault >>= rest = Err fault
 
 -- ---- what is added
 
@@ -104,18 +99,22 @@ pairs_meant word (text ∷ texts) = do
   pairs ← pairs_meant word texts
   Ok (pair ∷ pairs)
 
+-- all pairs but those that are the same as one of these
 abbrev pub without_pairs : List Pair → List Pair → List Pair
-without_pairs [] pairs = pairs
-without_pairs (wanted ∷ others) pairs = without_pairs others (without_pair wanted pairs)
+without_pairs wanted pairs = filter (λ pair. not (list_any (is_same pair) wanted)) pairs
+
+-- pairs of one name are taken out; none where one is refused
+abbrev pub all_deleted : List ℕ → List (List ℕ) → List Pair → OrFault (List Pair)
+all_deleted word texts pairs = do
+  wanted ← pairs_meant word texts
+  Ok (without_pairs wanted pairs)
 
 -- pairs of a name are taken out, all of them or those with these sequences; none where a word is refused
 unfoldable pub deleted : List ℕ → List (List ℕ) → List Pair → OrFault (List Pair)
 deleted word [] pairs = do
   name ← name_or_fault word (name_in word)
   Ok (without_name name pairs)
-deleted word (text ∷ texts) pairs = do
-  wanted ← pairs_meant word (text ∷ texts)
-  Ok (without_pairs wanted pairs)
+deleted word (text ∷ texts) pairs = all_deleted word (text ∷ texts) pairs
 
 -- names and what stands for them
 abbrev pub meanings_of : List Pair → List (List ℕ × Sequence)

@@ -110,10 +110,9 @@ impl Debug for VirtualFault {
 }
 
 impl From<AllocError> for VirtualFault {
-    ghost use Rattle.std.specs.Prelude.{◌≡◌};
-    ghost use Rattle.tk_virtual.specs.declared.fault.VirtualFault.TheVariants.{NoMemory};
+    ghost use Rattle.tk_virtual.specs.declared.fault.VirtualFault.{VirtualFault};
 
-    ghost from_gives = { λ _ e. e ≡ NoMemory };
+    ghost from_gives = { λ _ e. e ≡ VirtualFault.NoMemory };
 
     fn from(_refused: AllocError) -> VirtualFault {
         VirtualFault::NoMemory
@@ -121,10 +120,9 @@ impl From<AllocError> for VirtualFault {
 }
 
 impl<T: Drop> From<AllocFailed<T>> for VirtualFault {
-    ghost use Rattle.std.specs.Prelude.{◌≡◌};
-    ghost use Rattle.tk_virtual.specs.declared.fault.VirtualFault.TheVariants.{NoMemory};
+    ghost use Rattle.tk_virtual.specs.declared.fault.VirtualFault.{VirtualFault};
 
-    ghost from_gives = { λ _ e. e ≡ NoMemory };
+    ghost from_gives = { λ _ e. e ≡ VirtualFault.NoMemory };
 
     fn from(_refused: AllocFailed<T>) -> VirtualFault {
         VirtualFault::NoMemory

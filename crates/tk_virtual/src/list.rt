@@ -8,12 +8,13 @@ ghost use Rattle.indexmap.specs.IndexSet.{remove_key};
 ghost use Rattle.tcl_text.specs.Limits.{most_bytes};
 ghost use Rattle.tcl_text.specs.Readings.{list_form};
 ghost use Rattle.tk_virtual.specs.First.{marking_first};
+ghost use Rattle.tk_virtual.specs.Several.{is_one_of, without_these};
 ghost use Rattle.tk_virtual.specs.Virtual.{has_name, is_same, without_name, without_pair, written_names};
 
 use crate::first::first_names;
-use crate::named::{file, pairs_of, take_out, take_out_name};
+use crate::named::{file, pairs_of, take_out, take_out_name, take_out_pairs};
 use crate::pair::Pair;
-use indexmap::IndexMap;
+use indexmap::{IndexMap, IndexSet};
 use std::alloc::{AllocError, Global};
 use std::collections::HashMap;
 use std::marker::Model;
@@ -132,6 +133,16 @@ impl PairList {
         taken
     }
 
+    /// Takes out those of some pairs of a name that are there. It takes no memory.
+    pub(crate) fn delete_pairs(&mut self, name: &VirtualName, wanted: &IndexSet<Pair>)
+        ensures { self.new ≡ without_these name.now wanted.now.keys self.old }
+    {
+        let name = name.as_str();
+        leave_out_pairs(&mut self.pairs, name, wanted);
+        take_out_pairs(&mut self.named, name, wanted);
+        mark_first(&mut self.pairs, pairs_of(&self.named, name));
+    }
+
     /// The names that have pairs, in their brackets, each where it first stands. `TooLong` where their list passes 65,536 bytes by its names
     /// alone; none is copied then.
     pub(crate) fn names(&self, alloc: Global) -> Result<TextList, TextFault>
@@ -174,6 +185,17 @@ fn leave_out_name(pairs: &mut IndexMap<Pair, bool>, name: &str)
         |pair: &Pair, first: &mut bool| -> bool
             ensures { (result ≡ not (has_name name.entry.now pair.now)) × (first.new ≡ first.old) }
         { !pair.has_name(name) },
+    );
+}
+
+/// Leaves the pairs that are none of some of a name.
+fn leave_out_pairs(pairs: &mut IndexMap<Pair, bool>, name: &str, wanted: &IndexSet<Pair>)
+    ensures { pairs.new.entries ≡ filter (λ entry. not (is_one_of name.now wanted.now.keys entry.0)) pairs.old.entries }
+{
+    pairs.retain(
+        |pair: &Pair, first: &mut bool| -> bool
+            ensures { (result ≡ not (is_one_of name.entry.now wanted.entry.now.keys pair.now)) × (first.new ≡ first.old) }
+        { !pair.is_one_of(name, wanted) },
     );
 }
 

@@ -1,9 +1,11 @@
 //! Pairs by their names: for each name those of it, in order.
 ghost use Rattle.std.specs.Prelude.{◌≡◌, ◌≢◌, ℕ, List, [], ◌∷◌, ◌++◌, filter, OnOk, OnErr};
 ghost use Rattle.tk_virtual.specs.Named.{listed};
+ghost use Rattle.tk_virtual.specs.Several.{is_one_of, without_these};
 ghost use Rattle.tk_virtual.specs.Virtual.{has_name, is_same, without_pair};
 
 use crate::pair::Pair;
+use indexmap::IndexSet;
 use std::alloc::{AllocError, Global};
 use std::collections::HashMap;
 
@@ -65,4 +67,29 @@ pub(crate) fn take_out_name(named: &mut HashMap<String, Vec<Pair>>, name: &str)
     ensures others { (other : List ℕ) → other ≢ name.now → listed other named.new ≡ listed other named.old }
 {
     named.remove(name);
+}
+
+/// Takes those of some pairs of a name out. Nothing is kept of a name that has no other.
+pub(crate) fn take_out_pairs(
+    named: &mut HashMap<String, Vec<Pair>>,
+    name: &str,
+    wanted: &IndexSet<Pair>,
+)
+    ensures own { listed name.now named.new ≡ without_these name.now wanted.now.keys (listed name.now named.old) }
+    ensures others { (other : List ℕ) → other ≢ name.now → listed other named.new ≡ listed other named.old }
+{
+    let Some(pairs) = named.get_mut(name) else {
+        return;
+    };
+    leave_out_pairs(pairs, name, wanted);
+    if pairs.is_empty() {
+        named.remove(name);
+    }
+}
+
+/// Leaves the pairs that are none of some of a name.
+fn leave_out_pairs(pairs: &mut Vec<Pair>, name: &str, wanted: &IndexSet<Pair>)
+    ensures { pairs.new.items ≡ without_these name.now wanted.now.keys pairs.old.items }
+{
+    pairs.retain(|pair| !pair.is_one_of(name, wanted));
 }

@@ -6,6 +6,7 @@ ghost use Rattle.tk_virtual.specs.Virtual.{has_name, is_same, name_or_fault, not
 
 use crate::fault::VirtualFault;
 use crate::written::WrittenSequence;
+use indexmap::IndexSet;
 use std::alloc::{AllocError, Global};
 use std::hash::{Hash, Hasher};
 use tcl_text::Text;
@@ -63,6 +64,7 @@ pub fn pair_meant(alloc: Global, word: &Text, text: &Text) -> Result<Pair, Virtu
 
 impl Pair {
     ghost use Rattle.std.specs.Prelude.{◌≡◌, IfOk};
+    ghost use Rattle.tk_virtual.specs.Several.{is_one_of};
     ghost use Rattle.tk_virtual.specs.Virtual.{has_name, is_same};
 
     /// Whether it is a pair of this name.
@@ -70,6 +72,13 @@ impl Pair {
         ensures { result ≡ has_name name.now self.now }
     {
         self.name.as_str() == name
+    }
+
+    /// Whether it is one of some pairs that have a name. Most pairs have another, and aren't hashed.
+    pub(crate) fn is_one_of(&self, name: &str, wanted: &IndexSet<Pair>) -> bool
+        ensures { result ≡ is_one_of name.now wanted.now.keys self.now }
+    {
+        self.has_name(name) && wanted.contains(self)
     }
 
     /// Whether it has the name of another, and a sequence of the same canonical form.

@@ -5,13 +5,15 @@ ghost use Rattle.tcl_text.specs.Limits.{most_bytes};
 ghost use Rattle.tcl_text.specs.Readings.{list_form};
 ghost use Rattle.tk_sequences.specs.Writing.{canonical};
 ghost use Rattle.tk_virtual.specs.Classes.{is_of_class};
+ghost use Rattle.tk_virtual.specs.Several.{without_these};
 ghost use Rattle.tk_virtual.specs.Virtual.{added, all_added, has_name, is_same, with_pair, without_name, without_pair, written_names, written_of};
 
 use crate::class::sequence_class;
-use crate::classes::{delete_name_in, file_in, take_last_in, take_out_in};
+use crate::classes::{delete_name_in, delete_pairs_in, file_in, take_last_in, take_out_in};
 use crate::fault::VirtualFault;
 use crate::list::PairList;
 use crate::pair::{Pair, pair_meant};
+use indexmap::IndexSet;
 use std::alloc::{AllocError, Global};
 use std::collections::HashMap;
 use std::marker::Model;
@@ -211,6 +213,14 @@ impl VirtualPairs {
         };
         let class = sequence_class(pair.sequence.sequence());
         take_out_in(&mut self.classes, class, wanted);
+    }
+
+    /// Takes out those of some pairs of a name that are there. It takes no memory.
+    pub fn delete_pairs(&mut self, name: &VirtualName, wanted: &IndexSet<Pair>)
+        ensures { self.new ≡ without_these name.now wanted.now.keys self.old }
+    {
+        delete_pairs_in(&mut self.classes, self.pairs.named(name), name, wanted);
+        self.pairs.delete_pairs(name, wanted);
     }
 
     /// The names that have pairs, in their brackets, each where it first stands (`event info` of event(n)). `TooLong` where their list passes

@@ -1,14 +1,17 @@
 //! The table of all applications.
-ghost use Rattle.std.specs.Prelude.{◌≡◌, ◌≢◌, ◌<◌, [], length, take, filter, IfOk, IfErr, OnOk, OnErr, Ok, Err};
+ghost use Rattle.std.specs.Prelude.{◌≡◌, ◌≢◌, ◌<◌, [], ◌∷◌, length, take, filter, IfOk, IfErr, OnOk, OnErr, Ok, Err};
+ghost use Rattle.indexmap.specs.IndexSet.{insert_key};
 ghost use Rattle.tcl_text.specs.Limits.{most_bytes};
 ghost use Rattle.tcl_text.specs.Readings.{list_form};
 ghost use Rattle.tk_sequences.specs.Words.{name_in};
-ghost use Rattle.tk_virtual.specs.Virtual.{added, all_added, deleted, name_or_fault, pairs_meant, without_name, without_pair, without_pairs, written_names, written_of};
+ghost use Rattle.tk_virtual.specs.Several.{meant_once, without_these};
+ghost use Rattle.tk_virtual.specs.Virtual.{added, all_added, all_deleted, deleted, is_same, name_or_fault, without_name, without_pair, written_names, written_of};
 ghost use Rattle.tk_virtual.specs.Shared.{LeavesOthers, own_of};
 
 use crate::fault::VirtualFault;
 use crate::pair::{Pair, name_meant, pair_meant};
 use crate::pairs::VirtualPairs;
+use indexmap::IndexSet;
 use std::alloc::{AllocError, Global};
 use std::collections::HashMap;
 use std::marker::Model;
@@ -37,17 +40,29 @@ impl Model for VirtualTable {
     ghost invariant = { λ t. t.none ≡ [] };
 }
 
-/// The pairs that a name and several sequences spell.
-fn pairs_meant(alloc: Global, name: &Text, sequences: &[Text]) -> Result<Vec<Pair>, VirtualFault>
-    ensures ok { IfOk result (λ pairs. pairs_meant name.now sequences.now ≡ Ok pairs.items) }
-    ensures refused { IfErr result (λ fault. fault ≢ VirtualFault.NoMemory → pairs_meant name.now sequences.now ≡ Err fault) }
+/// The pairs that a name and several sequences spell, each once.
+fn pairs_meant(
+    alloc: Global,
+    name: &Text,
+    sequences: &[Text],
+) -> Result<IndexSet<Pair>, VirtualFault>
+    ensures ok { IfOk result (λ pairs. meant_once name.now sequences.now ≡ Ok pairs.keys) }
+    ensures refused { IfErr result (λ fault. fault ≢ VirtualFault.NoMemory → meant_once name.now sequences.now ≡ Err fault) }
 {
-    let mut pairs = Vec::new(alloc);
+    let mut pairs = IndexSet::new(alloc);
     for sequence in sequences {
         let pair = pair_meant(alloc, name, sequence)?;
-        pairs.push(pair)?;
+        put(&mut pairs, pair)?;
     }
     Ok(pairs)
+}
+
+/// Puts a pair behind the others, unless it is there.
+fn put(pairs: &mut IndexSet<Pair>, pair: Pair) -> Result<(), AllocError>
+    ensures { OnOk result (pairs.new.keys ≡ insert_key is_same pairs.old.keys pair) }
+{
+    pairs.insert(pair)?;
+    Ok(())
 }
 
 impl VirtualTable {
@@ -160,21 +175,56 @@ impl VirtualTable {
                 self.delete_name(owner, &name);
                 Ok(())
             }
-            [_, ..] => {
-                let pairs = pairs_meant(alloc, name, sequences)?;
-                self.delete_pairs(owner, pairs.as_slice());
-                Ok(())
-            }
+            [sequence] => self.delete_one(alloc, owner, name, sequence),
+            [_, _, ..] => self.delete_all(alloc, owner, name, sequences),
         }
     }
 
-    /// Takes out several pairs, those of them that are there. It takes no memory.
-    fn delete_pairs(&mut self, owner: usize, pairs: &[Pair])
-        ensures own { own_of owner self.new ≡ without_pairs pairs.now (own_of owner self.old) }
+    /// Takes out the pair of a name and a sequence, if it is there.
+    fn delete_one(
+        &mut self,
+        alloc: Global,
+        owner: usize,
+        name: &Text,
+        sequence: &Text,
+    ) -> Result<(), VirtualFault>
+        ensures ok { OnOk result (all_deleted name.now (sequence.now ∷ []) (own_of owner self.old) ≡ Ok (own_of owner self.new)) }
+        ensures refused { IfErr result (λ fault. fault ≢ VirtualFault.NoMemory → all_deleted name.now (sequence.now ∷ []) (own_of owner self.old) ≡ Err fault) }
+        ensures others { LeavesOthers owner self.old self.new }
+        ensures err { OnErr result (self.new ≡ self.old) }
+    {
+        let pair = pair_meant(alloc, name, sequence)?;
+        self.delete_pair(owner, &pair);
+        Ok(())
+    }
+
+    /// Takes out the pairs of a name and several sequences, those of them that are there, all at once.
+    fn delete_all(
+        &mut self,
+        alloc: Global,
+        owner: usize,
+        name: &Text,
+        sequences: &[Text],
+    ) -> Result<(), VirtualFault>
+        requires { 0 < length sequences.now }
+        ensures ok { OnOk result (all_deleted name.now sequences.now (own_of owner self.old) ≡ Ok (own_of owner self.new)) }
+        ensures refused { IfErr result (λ fault. fault ≢ VirtualFault.NoMemory → all_deleted name.now sequences.now (own_of owner self.old) ≡ Err fault) }
+        ensures others { LeavesOthers owner self.old self.new }
+        ensures err { OnErr result (self.new ≡ self.old) }
+    {
+        let meant = name_meant(alloc, name)?;
+        let wanted = pairs_meant(alloc, name, sequences)?;
+        self.delete_pairs(owner, &meant, &wanted);
+        Ok(())
+    }
+
+    /// Takes out those of some pairs of a name that are there. It takes no memory.
+    fn delete_pairs(&mut self, owner: usize, name: &VirtualName, wanted: &IndexSet<Pair>)
+        ensures own { own_of owner self.new ≡ without_these name.now wanted.now.keys (own_of owner self.old) }
         ensures others { LeavesOthers owner self.old self.new }
     {
-        for pair in pairs {
-            self.delete_pair(owner, pair);
+        if let Some(own) = self.owners.get_mut(&owner) {
+            own.delete_pairs(name, wanted);
         }
     }
 

@@ -7,14 +7,14 @@ use Rattle.tcl_text.specs.Glob.{glob_matches}
 use Rattle.tcl_text.specs.Readings.{list_form}
 use Rattle.tcl_vars.specs.Table.{Table}
 use Rattle.tcl_vars.specs.Texts.{element_name}
-use Rattle.tcl_vars.specs.Store.{Store, elements_in, pairs_of, is_element_in, with_array, with_element, without_element}
+use Rattle.tcl_vars.specs.Store.{Store, elements_in, pairs_of, is_element_in, with_array, with_element, without_elements}
 use Rattle.tcl_text.specs.declared.fault.SetFault.{SetFault}
 use Rattle.tcl_text.specs.declared.fault.SetFault.TheVariants.{NotArray}
 use Rattle.tcl_commands.specs.declared.arrays.ArrayCommand.{ArrayCommand}
 use Rattle.tcl_commands.specs.declared.arrays.ArrayCommand.TheVariants as command
 use Rattle.tcl_commands.specs.Done.{Done, keeps, one_done, each_done, pairs}
 use Rattle.tcl_commands.specs.Texts.{cannot_set}
-use Rattle.tcl_commands.specs.Unset.{unset_told, unset_step}
+use Rattle.tcl_commands.specs.Unset.{unset_step}
 use Rattle.tcl_text.specs.Limits.{most_bytes}
 
 -- the elements of what a name means
@@ -63,13 +63,12 @@ abbrev pub unset_array : ℕ → List ℕ → Store → Option (Table (List ℕ)
 unset_array frame name store None = keeps store (Ok [])
 unset_array frame name store (Some elements) = one_done store (unset_step true frame name store)
 
-abbrev pub unset_element : ℕ → List ℕ → List ℕ → Store → Result Store (List ℕ)
-unset_element frame name index store = unset_told true name store (without_element store frame name index)
+abbrev pub unset_elements : ℕ → List ℕ → List ℕ → Store → Done
+unset_elements frame name pattern store = keeps (without_elements store frame name pattern) (Ok [])
 
 abbrev pub array_unset : ℕ → List (List ℕ) → Store → Done
 array_unset frame (name ∷ []) store = unset_array frame name store (elements_in store frame name)
-array_unset frame (name ∷ pattern ∷ []) store =
-    each_done (unset_element frame name) (map (λ e. e.0) (elements_wanted (Some pattern) (elements_named frame name store))) store
+array_unset frame (name ∷ pattern ∷ []) store = unset_elements frame name pattern store
 array_unset frame _ store = keeps store (wrong_args (codes "array unset name ?pattern?"))
 
 -- the key that has no value behind it, if the items are odd

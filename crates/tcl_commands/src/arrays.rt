@@ -19,7 +19,7 @@ use tcl_text::answers::{
 };
 use tcl_text::items::{items_in, list_answer};
 use tcl_text::{MAX_BYTES, Text, TextList};
-use tcl_vars::{Scopes, SetFault, UnsetFault, element_name};
+use tcl_vars::{Scopes, SetFault, element_name};
 
 /// A command of `array`.
 #[derive(Clone, Copy)]
@@ -209,10 +209,7 @@ fn array_unset(alloc: Global, scopes: &mut Scopes, frame: usize, words: &[Text])
 {
     match words {
         [name] => unset_array(alloc, scopes, frame, name),
-        [name, pattern] => {
-            let names = names_wanted(alloc, scopes, frame, name, pattern)?;
-            unset_elements(alloc, scopes, frame, name, names.as_slice())
-        }
+        [name, pattern] => unset_elements(scopes, frame, name, pattern),
         _ => wrong_args(alloc, "array unset name ?pattern?"),
     }
 }
@@ -230,43 +227,14 @@ fn unset_array(alloc: Global, scopes: &mut Scopes, frame: usize, name: &Text) ->
     Ok(Text::empty())
 }
 
-/// Unsets elements of an array.
-#[tactic(auto, using(crate::proofs::EachLemmas::steps))]
-fn unset_elements(
-    alloc: Global,
-    scopes: &mut Scopes,
-    frame: usize,
-    name: &Text,
-    indices: &[Text],
-) -> Reply
+/// Unsets the elements of an array that match a pattern.
+fn unset_elements(scopes: &mut Scopes, frame: usize, name: &Text, pattern: &Text) -> Reply
     requires { frame < length scopes.old }
-    ensures does { Does result scopes.new (each_done (spec.unset_element frame name.now) indices.now scopes.old) }
+    ensures does { Does result scopes.new (spec.unset_elements frame name.now pattern.now scopes.old) }
     ensures levels { length scopes.new ≡ length scopes.old }
 {
-    let mut rest = indices;
-    while let [index, others @ ..] = rest {
-        unset_element(scopes, frame, name, index)?;
-        rest = others;
-    }
+    scopes.unset_elements(frame, name, pattern)?;
     Ok(Text::empty())
-}
-
-/// Unsets an element, if it is there.
-fn unset_element(
-    scopes: &mut Scopes,
-    frame: usize,
-    name: &Text,
-    index: &Text,
-) -> Result<(), Refusal>
-    requires { frame < length scopes.old }
-    ensures steps { Steps result scopes.old scopes.new (spec.unset_element frame name.now index.now scopes.old) }
-    ensures levels { length scopes.new ≡ length scopes.old }
-{
-    match scopes.unset_element(frame, name, index) {
-        Ok(()) => Ok(()),
-        Err(UnsetFault::NoMemory) => Err(Refusal::NoMemory),
-        Err(_) => Ok(()),
-    }
 }
 
 fn array_set(alloc: Global, scopes: &mut Scopes, frame: usize, words: &[Text]) -> Reply

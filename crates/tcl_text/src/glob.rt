@@ -27,6 +27,13 @@ impl Text {
     {
         matches_whole(pattern.as_str(), text.as_str())
     }
+
+    /// The same of a text that isn't kept as one, as the name of an element. It takes no memory.
+    pub fn glob_match_str(pattern: &Text, text: &str) -> bool
+        ensures { result ≡ glob_matches (chars pattern.now) (chars text.now) }
+    {
+        matches_whole(pattern.as_str(), text)
+    }
 }
 
 /// Whether the pattern matches the whole text: run by run, each at the first place where it matches

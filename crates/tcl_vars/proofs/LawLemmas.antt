@@ -14,7 +14,7 @@ use Rattle.tcl_text.specs.declared.fault.UnsetFault.{UnsetFault}
 use Rattle.tcl_text.specs.declared.fault.LinkFault.TheVariants as links
 use Rattle.tcl_vars.specs.Name.{Place, place_of}
 use Rattle.tcl_vars.specs.Links.{LinksDescend}
-use Rattle.tcl_vars.specs.Store.{Store, Frame, frame_with_rest, frame_at, content_at, with_content, variable_count, link_of, indexed, led_by, led, end_of, place_in, element_place_in, text_of, text_at, content_with, within_variables, with_new_content, with_text_at, with_variable, with_element, content_without, with_rest, without_text_at, without_variable, without_element, array_state, with_array_of, with_array_at, with_array, is_plain_name, holds_value, variable_place, with_link, is_there, is_there_at}
+use Rattle.tcl_vars.specs.Store.{Store, Frame, frame_with_rest, frame_at, content_at, with_content, variable_count, link_of, indexed, led_by, led, end_of, place_in, element_place_in, text_of, text_at, content_with, within_variables, with_new_content, with_text_at, with_variable, with_element, content_without, with_rest, without_text_at, without_variable, array_state, with_array_of, with_array_at, with_array, is_plain_name, holds_value, variable_place, with_link, is_there, is_there_at}
 use Rattle.tcl_vars.specs.Table.{value_at, with_value}
 use Rattle.tcl_vars.specs.Unset.{UnsetsText, Unsets, IsGone}
 use Rattle.tcl_vars.proofs.LinkLemmas.{led-end, next_below}
@@ -60,10 +60,6 @@ module _ (store new : Store) where
   pub length-without_variable : (level : ℕ) (name : List ℕ) → without_variable store level name ≡ Ok new → length new ≡ length store
   unfolding without_variable
   length-without_variable level name e = length-without_text_at (place_in store level name) e
-
-  pub length-without_element : (level : ℕ) (name index : List ℕ) → without_element store level name index ≡ Ok new → length new ≡ length store
-  unfolding without_element
-  length-without_element level name index e = length-without_text_at (element_place_in store level name index) e
 
   length-with_array_of : (place : Place) (state : Option Bool) → with_array_of store place state ≡ Ok new → length new ≡ length store
   length-with_array_of place None e = absurd (cc)

@@ -1,5 +1,5 @@
 -- A map under text keys does what the list of its named entries says.
-use Rattle.std.proofs.Common.{◌≡◌, ℕ, zero, suc, ◌<◌, Bool, true, false, cond, List, [], ◌∷◌, length, get_or, Option, None, Some, is_some, slice_get, position, String, string_bytes, string_eq, bytes_eq, refl, sym, ap, subst, ◌∙◌, arith}
+use Rattle.std.proofs.Common.{◌≡◌, ℕ, zero, suc, ◌<◌, Bool, true, false, cond, List, [], ◌∷◌, filter, length, get_or, Option, None, Some, is_some, slice_get, position, String, string_bytes, string_eq, bytes_eq, refl, sym, ap, subst, ◌∙◌, arith}
 use Rattle.std.proofs.lemmas.List.Quantifiers.{position-Some}
 use Rattle.std.specs.List.{IsDistinct}
 use Rattle.std.specs.Map.{keys_of, values_of, lookup, remove_entry}
@@ -27,6 +27,16 @@ module _ {Z V : Type 0} where
           → named_entries (cond b es (e ∷ remove_entry (is_key name) es)) ≡ cond b (named_entries es) ((string_bytes e.0, e.1) ∷ remove_entry (bytes_eq name) (named_entries es))
       by true rest = refl
       by false rest = ap (λ l. (string_bytes e.0, e.1) ∷ l) rest
+
+  pub named_entries-filter : (keeps : List ℕ → Bool) (es : List (String Z × V)) → named_entries (filter (λ e. keeps (string_bytes e.0)) es) ≡ filter (λ e. keeps e.0) (named_entries es)
+  named_entries-filter keeps [] = refl
+  named_entries-filter keeps (e ∷ es) = by (keeps (string_bytes e.0)) (named_entries-filter keeps es)
+    where
+      by : (b : Bool) → named_entries (filter (λ e. keeps (string_bytes e.0)) es) ≡ filter (λ e. keeps e.0) (named_entries es)
+          → named_entries (cond b (e ∷ filter (λ e. keeps (string_bytes e.0)) es) (filter (λ e. keeps (string_bytes e.0)) es))
+          ≡ cond b ((string_bytes e.0, e.1) ∷ filter (λ e. keeps e.0) (named_entries es)) (filter (λ e. keeps e.0) (named_entries es))
+      by true rest = ap (λ l. (string_bytes e.0, e.1) ∷ l) rest
+      by false rest = rest
 
   module _ (v : V) where
     pub named_entries-insert_entry : (k : String Z) (es : List (String Z × V)) → named_entries (insert_entry string_eq es k v) ≡ insert_entry bytes_eq (named_entries es) (string_bytes k) v

@@ -1,5 +1,5 @@
 -- Short names stay short.
-use Rattle.std.proofs.Common.{◌≡◌, ℕ, zero, suc, Bool, true, false, cond, List, [], ◌∷◌, String, bytes_eq, slice_get, Some, subst}
+use Rattle.std.proofs.Common.{◌≡◌, ℕ, zero, suc, Bool, true, false, cond, List, [], ◌∷◌, filter, String, bytes_eq, slice_get, Some, subst}
 use Rattle.indexmap.specs.IndexMap.{set_value_at}
 use Rattle.tcl_vars.specs.Named.{named_entries}
 use Rattle.tcl_vars.specs.Short.{IsShort, ShortNames}
@@ -21,6 +21,14 @@ module _ {V : Type 0} where
       by : (b : Bool) → ShortNames (without es name) → ShortNames (cond b es (e ∷ without es name))
       by true rest = h.1
       by false rest = (h.0, rest)
+
+  pub ShortNames-filter : (keeps : List ℕ → Bool) (table : Table V) → ShortNames table → ShortNames (filter (λ e. keeps e.0) table)
+  ShortNames-filter keeps [] h = tt
+  ShortNames-filter keeps (e ∷ es) h = by (keeps e.0) (ShortNames-filter keeps es h.1)
+    where
+      by : (b : Bool) → ShortNames (filter (λ e. keeps e.0) es) → ShortNames (cond b (e ∷ filter (λ e. keeps e.0) es) (filter (λ e. keeps e.0) es))
+      by true rest = (h.0, rest)
+      by false rest = rest
 
   pub ShortNames-set_value_at : {Z : Type 0} (es : List (String Z × V)) (i : ℕ) (value : V) → ShortNames (named_entries es) → ShortNames (named_entries (set_value_at es i value))
   ShortNames-set_value_at [] i value h = tt

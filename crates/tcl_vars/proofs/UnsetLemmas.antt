@@ -1,15 +1,17 @@
 -- Unsetting in a frame, by what it does in the content, and in a store, by what it does in the frame.
-use Rattle.std.proofs.Common.{◌≡◌, ◌≢◌, ℕ, ◌+◌, ◌-◌, ◌<◌, Bool, true, false, cond, List, Option, None, Some, is_some, if◌then◌else◌, MatchBool, Ok, Err, Result, length, set, refl, sym, ap, ◌∙◌, subst, arith, length-set}
+use Rattle.std.proofs.Common.{◌≡◌, ◌≢◌, ℕ, ◌+◌, ◌-◌, ◌<◌, ◌≤◌, Bool, true, false, cond, not, List, [], ◌∷◌, filter, Option, None, Some, is_some, if◌then◌else◌, MatchBool, Ok, Err, Result, length, set, refl, sym, ap, ◌∙◌, subst, arith, length-set}
 use Rattle.tcl_vars.specs.declared.content.Content.{Content}
 use Rattle.tcl_vars.specs.declared.content.Content.TheVariants.{Scalar, Array, Link}
 use Rattle.tcl_text.specs.declared.fault.UnsetFault.{UnsetFault}
 use Rattle.tcl_text.specs.declared.fault.UnsetFault.TheVariants.{NoElement}
+use Rattle.std.specs.Str.{chars}
+use Rattle.tcl_text.specs.Glob.{glob_matches}
 use Rattle.tcl_vars.specs.Name.{Place}
 use Rattle.tcl_vars.specs.Sound.{IsSound}
 use Rattle.tcl_vars.specs.Links.{IsBelow, AllBelow}
-use Rattle.tcl_vars.specs.Store.{Store, Frame, frame_at, content_at, content_count, frame_count, variable_count, content_without, frame_with_rest, without_text_at, end_of, is_there, link_of}
-use Rattle.tcl_vars.specs.Table.{value_at, with_value, without, weight_of}
-use Rattle.tcl_vars.specs.Unset.{UnsetsWhole, UnsetsElement, UnsetsText, Unsets}
+use Rattle.tcl_vars.specs.Store.{Store, Frame, frame_at, content_at, content_count, frame_count, variable_count, content_without, elements_of, frame_with_rest, place_in, without_elements, without_elements_at, without_elements_of, without_text_at, end_of, is_there, link_of}
+use Rattle.tcl_vars.specs.Table.{Table, value_at, values_but, with_value, without, weight_of}
+use Rattle.tcl_vars.specs.Unset.{UnsetsWhole, UnsetsElement, UnsetsText, Unsets, content_but, frame_but}
 use Rattle.tcl_vars.proofs.BelowLemmas.{AllBelow-with_value, AllBelow-without}
 use Rattle.tcl_vars.proofs.LinkLemmas.{led-here}
 use Rattle.tcl_vars.proofs.StoreLemmas.{variable_count-set, FramesDescend-set}
@@ -117,3 +119,81 @@ pub unset_at_end : (store new : Store) (place : Place) (done : Bool) → link_of
     → MatchBool done (Unsets store place (Ok new)) ((link_of (content_at store place) ≢ None) × (new ≡ store)) → Unsets store place (Ok new)
 unset_at_end store new place true linkless h = h
 unset_at_end store new place false linkless h = absurd (h.0 linkless)
+
+-- ── the elements that match a pattern ──
+
+filter_fewer : {X : Type 0} (test : X → Bool) (xs : List X) → length (filter test xs) ≤ length xs
+filter_fewer test [] = omega arith
+filter_fewer test (x ∷ xs) = by (test x) (filter_fewer test xs)
+  where
+    by : (t : Bool) → length (filter test xs) ≤ length xs → length (cond t (x ∷ filter test xs) (filter test xs)) ≤ length (x ∷ xs)
+    by true rest = omega (arith, rest)
+    by false rest = omega (arith, rest)
+
+pub values_fewer : (pattern : List ℕ) (elements : Table (List ℕ)) → length (values_but pattern elements) ≤ length elements
+values_fewer pattern elements = filter_fewer (λ e. not (glob_matches (chars pattern) (chars e.0))) elements
+
+module _ (pattern : List ℕ) (frame : Frame) (variable : List ℕ) where
+  but_by : (held : Content) → value_at frame variable ≡ Some held → with_value frame variable (content_but pattern held) ≡ frame_but pattern variable (Some held) frame
+  but_by (Scalar text) known = with_value-same variable (Scalar text) frame known
+  but_by (Array elements) known = refl
+  but_by (Link to name) known = with_value-same variable (Link to name) frame known
+
+  pub frame_but-held : (held : Content) → value_at frame variable ≡ Some held → with_value frame variable (content_but pattern held) ≡ frame_but pattern variable (value_at frame variable) frame
+  frame_but-held held known = but_by held known ∙ sym (ap (λ o. frame_but pattern variable o frame) known)
+
+  -- no link comes
+  pub AllBelow-but : (level : ℕ) (held : Option Content) → AllBelow level frame → AllBelow level (frame_but pattern variable held frame)
+  AllBelow-but level None below = below
+  AllBelow-but level (Some (Scalar text)) below = below
+  AllBelow-but level (Some (Array elements)) below = AllBelow-with_value level frame variable (Array (values_but pattern elements)) below tt
+  AllBelow-but level (Some (Link to name)) below = below
+
+pub frame_but-counted : (frame : Frame) (variable : List ℕ) (held : Content) → value_at frame variable ≡ Some held → (new : Content) (removed : ℕ) → content_count new + removed ≡ content_count held
+    → frame_count (with_value frame variable new) + removed ≡ frame_count frame
+frame_but-counted frame variable held known new removed counted =
+    let all : frame_count (with_value frame variable new) + weight_of content_count (value_at frame variable) ≡ frame_count frame + content_count new
+    = weights-with_value variable new content_count frame in
+    omega (arith, rw known at all, counted)
+
+module _ (store : Store) (count : ℕ) (sound : IsSound store count) (level : ℕ) (within : level < length store) (pattern variable : List ℕ) (held : Option Content) where
+  module _ (removed : ℕ) (new : Frame) (is : new ≡ frame_but pattern variable held (frame_at store level)) (counted : frame_count new + removed ≡ frame_count (frame_at store level)) where
+    counted-but : variable_count (set store level new) + removed ≡ count
+    counted-but = omega (arith, variable_count-set store level within new, counted, sound.counted)
+
+    -- the store stays sound
+    pub IsSound-but : IsSound (set store level new) (count - removed)
+    IsSound-but = record {
+      rooted = omega (arith, sound.rooted, length-set store level new);
+      counted = omega (arith, counted-but);
+      limited = omega (arith, sound.limited);
+      descending = FramesDescend-set store level within new sound.descending
+          (subst (AllBelow level) (sym is) (AllBelow-but pattern (frame_at store level) variable level held (sound.descending level)));
+    }
+
+    pub removed-but : removed ≤ count
+    removed-but = omega (arith, counted-but)
+
+-- an array is what its elements are the elements of
+array_held : (held : Option Content) (element : Option (List ℕ)) (elements : Table (List ℕ)) → elements_of held element ≡ Some elements → held ≡ Some (Array elements)
+array_held None element elements e = absurd (cc)
+array_held (Some (Scalar text)) element elements e = absurd (cc)
+array_held (Some (Array held)) None elements e = let same : held ≡ elements = cc in ap (λ t. Some (Array t)) same
+array_held (Some (Array held)) (Some index) elements e = absurd (cc)
+array_held (Some (Link to name)) element elements e = absurd (cc)
+
+module _ (store : Store) (frame : ℕ) (name pattern : List ℕ) where
+  pub without_elements-nowhere : place_in store frame name ≡ None → store ≡ without_elements store frame name pattern
+  unfolding without_elements
+  without_elements-nowhere none = sym (ap (without_elements_at store pattern) none)
+
+  pub without_elements-none : (place : Place) → place_in store frame name ≡ Some place → elements_of (content_at store place) place.element ≡ None → store ≡ without_elements store frame name pattern
+  unfolding without_elements
+  without_elements-none place leads none = sym (ap (without_elements_at store pattern) leads ∙ ap (without_elements_of store pattern place) none)
+
+  pub without_elements-some : (place : Place) → place_in store frame name ≡ Some place → (elements : Table (List ℕ)) → elements_of (content_at store place) place.element ≡ Some elements
+      → set store place.frame (frame_but pattern place.variable (content_at store place) (frame_at store place.frame)) ≡ without_elements store frame name pattern
+  unfolding without_elements
+  without_elements-some place leads elements some =
+      ap (λ held. set store place.frame (frame_but pattern place.variable held (frame_at store place.frame))) (array_held (content_at store place) place.element elements some)
+      ∙ sym (ap (without_elements_at store pattern) leads ∙ ap (without_elements_of store pattern place) some)

@@ -12,7 +12,7 @@ use Rattle.tcl_text.specs.declared.fault.LinkFault.TheVariants as links
 use Rattle.tcl_text.specs.declared.fault.UnsetFault.{UnsetFault}
 use Rattle.tcl_text.specs.declared.fault.UnsetFault.TheVariants as unsets
 use Rattle.tcl_vars.specs.Name.{Place, element_of, place_of}
-use Rattle.tcl_vars.specs.Table.{Table, value_at, with_value, without}
+use Rattle.tcl_vars.specs.Table.{Table, value_at, values_but, with_value, without}
 use Rattle.tcl_text.specs.Limits.{most_variables}
 use Rattle.tcl_text.specs.Readings.{integer_of}
 
@@ -272,6 +272,15 @@ without_text_at store (Some place) = with_rest store place (content_without (con
 unfoldable pub without_variable : Store → ℕ → List ℕ → Result Store UnsetFault
 without_variable store frame name = without_text_at store (place_in store frame name)
 
--- the store after the element that an index gives of the array that a name means is unset
-unfoldable pub without_element : Store → ℕ → List ℕ → List ℕ → Result Store UnsetFault
-without_element store frame name index = without_text_at store (element_place_in store frame name index)
+-- an array without the elements whose indices match a pattern; what is no array stays
+abbrev pub without_elements_of : Store → List ℕ → Place → Option (Table (List ℕ)) → Store
+without_elements_of store pattern place None = store
+without_elements_of store pattern place (Some elements) = with_content store place (Array (values_but pattern elements))
+
+abbrev pub without_elements_at : Store → List ℕ → Option Place → Store
+without_elements_at store pattern None = store
+without_elements_at store pattern (Some place) = without_elements_of store pattern place (elements_at store (Some place))
+
+-- the store after the elements whose indices match a pattern are unset of the array that a name means
+unfoldable pub without_elements : Store → ℕ → List ℕ → List ℕ → Store
+without_elements store frame name pattern = without_elements_at store pattern (place_in store frame name)

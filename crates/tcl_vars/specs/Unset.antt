@@ -1,13 +1,14 @@
 -- Steps. What unsetting does in one content, in one frame and in the store.
 use Rattle.std.specs.Prelude.{false, ◌≡◌, ◌≢◌, ℕ, ◌+◌, List, Option, None, Some, Result, Ok, Err, IfErr, OnOk, OnErr}
 use Rattle.tcl_vars.specs.declared.content.Content.{Content}
+use Rattle.tcl_vars.specs.declared.content.Content.TheVariants.{Scalar, Array, Link}
 use Rattle.tcl_vars.specs.declared.content.Removal.{Removal}
 use Rattle.tcl_vars.specs.declared.content.Removal.TheVariants.{Whole, Element, Linked}
 use Rattle.tcl_text.specs.declared.fault.UnsetFault.{UnsetFault}
 use Rattle.tcl_text.specs.declared.fault.UnsetFault.TheVariants.{NoMemory}
 use Rattle.tcl_vars.specs.Name.{Place}
 use Rattle.tcl_vars.specs.Store.{Store, Frame, content_at, content_count, frame_count, content_without, frame_with_rest, end_of, without_text_at, is_there, is_there_at, link_of}
-use Rattle.tcl_vars.specs.Table.{value_at}
+use Rattle.tcl_vars.specs.Table.{value_at, values_but, with_value}
 
 -- the whole goes, which counts so many
 pub record UnsetsWhole (old : Content) (element : Option (List ℕ)) (count : ℕ) (new : Content) : Type 0 where
@@ -59,3 +60,16 @@ pub record UnsetsThere (old : Store) (place : Place) (result : Result (Unit {0})
   pub refused : IfErr result (λ fault. fault ≢ NoMemory → without_text_at old (end_of old place) ≡ Err fault)
   pub err : OnErr result (new ≡ old)
   pub gone : OnOk result (is_there_at new (end_of new place) ≡ false)
+
+-- the elements of an array go whose indices match a pattern
+abbrev pub content_but : List ℕ → Content → Content
+content_but pattern (Scalar text) = Scalar text
+content_but pattern (Array elements) = Array (values_but pattern elements)
+content_but pattern (Link frame name) = Link frame name
+
+-- the same of what a variable of a frame stands for
+abbrev pub frame_but : List ℕ → List ℕ → Option Content → Frame → Frame
+frame_but pattern variable None frame = frame
+frame_but pattern variable (Some (Scalar text)) frame = frame
+frame_but pattern variable (Some (Array elements)) frame = with_value frame variable (Array (values_but pattern elements))
+frame_but pattern variable (Some (Link level name)) frame = frame

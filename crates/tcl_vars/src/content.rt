@@ -7,8 +7,8 @@ ghost use Rattle.tcl_vars.specs.Changing.{ChangesContent, KeepsContent};
 ghost use Rattle.tcl_vars.specs.Put.{AfterContent, RefusesContent};
 ghost use Rattle.tcl_vars.specs.Short.{IsShort};
 ghost use Rattle.tcl_vars.specs.Store.{array_state, content_count, content_without, elements_of, holds_value, is_there, link_of, text_of};
-ghost use Rattle.tcl_vars.specs.Unset.{AfterUnset};
-ghost use Rattle.tcl_vars.specs.Table.{value_at, with_value, without};
+ghost use Rattle.tcl_vars.specs.Unset.{AfterUnset, content_but};
+ghost use Rattle.tcl_vars.specs.Table.{value_at, values_but, with_value, without};
 
 use crate::table::Table;
 use std::alloc::{AllocError, Global};
@@ -247,6 +247,28 @@ impl Content {
             }
         }
     }
+
+    /// Takes out the elements whose indices match a pattern, and gives how many they were; none of what is no array.
+    pub(crate) fn leave_out(&mut self, pattern: &Text) -> usize
+        ensures content { self.new ≡ content_but pattern.now self.old }
+        ensures counted { content_count self.new + result ≡ content_count self.old }
+    {
+        match self {
+            Content::Scalar(_) => 0,
+            Content::Array(elements) => leave_out(elements, pattern),
+            Content::Link(_, _) => 0,
+        }
+    }
+}
+
+// Takes out the elements whose indices match a pattern, and gives how many they were.
+fn leave_out(elements: &mut Table<Text>, pattern: &Text) -> usize
+    ensures elements { elements.new ≡ values_but pattern.now elements.old }
+    ensures counted { length elements.new + result ≡ length elements.old }
+{
+    let before = elements.len();
+    elements.leave_out(pattern);
+    before - elements.len()
 }
 
 // The sum of the integer that a text is and an amount, where 64 bits hold it.

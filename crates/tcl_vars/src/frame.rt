@@ -6,7 +6,7 @@ ghost use Rattle.tcl_vars.specs.Put.{RefusesText, AfterPut, new_count};
 ghost use Rattle.tcl_vars.specs.Short.{IsShort, IsShortPlace};
 ghost use Rattle.tcl_vars.specs.Shown.{shown};
 ghost use Rattle.tcl_vars.specs.Store.{content_count, content_with, frame_count, link_of};
-ghost use Rattle.tcl_vars.specs.Unset.{UnsetsText, RefusesUnset};
+ghost use Rattle.tcl_vars.specs.Unset.{UnsetsText, RefusesUnset, frame_but};
 ghost use Rattle.tcl_vars.specs.Table.{value_at, with_value, weight_of};
 ghost use Rattle.tcl_text.specs.Limits.{most_variables};
 
@@ -113,6 +113,17 @@ pub(crate) fn unset(frame: &mut Frame, place: Place<'_>) -> Result<Option<usize>
         }
         Removal::Element => Ok(Some(1)),
         Removal::Linked => Ok(None),
+    }
+}
+
+/// Takes out the elements of a variable whose indices match a pattern, and gives how many they were; none of what is no array.
+pub(crate) fn leave_out(frame: &mut Frame, variable: &str, pattern: &Text) -> usize
+    ensures frame { frame.new ≡ frame_but pattern.now variable.now (value_at frame.old variable.now) frame.old }
+    ensures counted { frame_count frame.new + result ≡ frame_count frame.old }
+{
+    match frame.get_mut(variable) {
+        None => 0,
+        Some(content) => content.leave_out(pattern),
     }
 }
 

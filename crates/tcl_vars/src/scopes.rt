@@ -1,4 +1,4 @@
-ghost use Rattle.std.specs.Prelude.{◌≡◌, ◌≢◌, ◌<◌, ◌≤◌, ◌-◌, [], ◌∷◌, ◌++◌, length, take, IfOk, IfErr, OnOk, OnErr, map, unwrap_or, is_some, false, MatchResult, MatchOption, MatchBool, Ok, Err, Some, None};
+ghost use Rattle.std.specs.Prelude.{◌≡◌, ◌≢◌, ◌<◌, ◌≤◌, ◌-◌, [], ◌∷◌, ◌++◌, length, slice_set, take, IfOk, IfErr, OnOk, OnErr, map, unwrap_or, is_some, false, MatchResult, MatchOption, MatchBool, Ok, Err, Some, None};
 ghost use Rattle.std.specs.Option.{option_copied};
 ghost use Rattle.std.specs.Bool.{OnTrue};
 ghost use Rattle.tcl_vars.specs.Add.{Adds};
@@ -10,15 +10,15 @@ ghost use Rattle.tcl_vars.specs.Shown.{shown};
 ghost use Rattle.tcl_vars.specs.Links.{IsBelow};
 ghost use Rattle.tcl_vars.specs.Name.{place_of};
 ghost use Rattle.tcl_vars.specs.Table.{weight_of};
-ghost use Rattle.tcl_vars.specs.Unset.{IsGone, Unsets, UnsetsThere};
-ghost use Rattle.tcl_vars.specs.Store.{content_at, link_of, end_of, text_at, variable_in, number_in, element_in, with_variable, with_element, without_variable, without_element, content_count, variable_count, with_content, with_link, with_array, has_variable, is_element_in, elements_in, pairs_of, variable_place};
+ghost use Rattle.tcl_vars.specs.Unset.{IsGone, Unsets, UnsetsThere, frame_but};
+ghost use Rattle.tcl_vars.specs.Store.{content_at, link_of, end_of, text_at, variable_in, number_in, element_in, with_variable, with_element, without_variable, without_elements, frame_at, content_count, variable_count, with_content, with_link, with_array, has_variable, is_element_in, elements_in, pairs_of, variable_place};
 ghost use Rattle.tcl_text.specs.Limits.{most_variables};
 
 use crate::arrays::{names_of, pairs_of};
 use crate::content::{
     Content, Outcome, array_state, elements_of, holds_value, integer_in, is_there, link_of, text_of,
 };
-use crate::frame::{Frame, add, change, give, put, unset, variable_count};
+use crate::frame::{Frame, add, change, give, leave_out, put, unset, variable_count};
 use crate::name::{
     OwnPlace, Place, element_place, has_no_marks, is_given, is_plain, place_of, place_of_text,
     variable_place,
@@ -227,27 +227,28 @@ impl Scopes {
         Ok(())
     }
 
-    /// Unsets the element that an index gives of the array that a name means in a frame (array(n), `array unset`).
-    /// `NoVariable` (15), `NoElement` (16), `NotArray` (18).
-    pub fn unset_element(
+    /// Unsets the elements whose indices match a pattern, of the array that a name means in a frame (array(n), `array unset`). What is no array
+    /// stays.
+    pub fn unset_elements(
         &mut self,
         frame: usize,
         name: &Text,
-        index: &Text,
-    ) -> Result<(), UnsetFault>
+        pattern: &Text,
+    ) -> Result<(), AllocError>
         requires { frame < length self.old }
-        ensures ok { OnOk result (without_element self.old frame name.now index.now ≡ Ok self.new) }
-        ensures refused { IfErr result (λ fault. fault ≢ UnsetFault.NoMemory → without_element self.old frame name.now index.now ≡ Err fault) }
+        ensures ok { OnOk result (self.new ≡ without_elements self.old frame name.now pattern.now) }
         ensures err { OnErr result (self.new ≡ self.old) }
         ensures levels { length self.new ≡ length self.old }
     {
-        match element_place(frame, name, index) {
-            Some(place) => {
-                self.erase(place)?;
-                Ok(())
-            }
-            None => Err(UnsetFault::NotArray),
-        }
+        let Some(found) = self.lead(place_of_text(frame, name)) else {
+            return Ok(());
+        };
+        let Some(_elements) = elements_of(found.content, found.place.element) else {
+            return Ok(());
+        };
+        let end = OwnPlace::of(self.alloc, found.place)?;
+        self.leave_out(end.place(), pattern);
+        Ok(())
     }
 
     /// Whether there is the variable or element that a name means in a frame (info(n), `info exists`). It takes no memory.
@@ -653,6 +654,16 @@ impl Scopes {
             }
             None => Ok(false),
         }
+    }
+
+    // Takes out the elements of the variable of a place whose indices match a pattern.
+    fn leave_out(&mut self, place: Place<'_>, pattern: &Text)
+        requires { place.frame < length self.old }
+        ensures { self.new ≡ slice_set self.old place.entry.frame
+            (frame_but pattern.now place.entry.variable.now (content_at self.old (shown place.entry)) (frame_at self.old place.entry.frame)) }
+    {
+        let frame = &mut self.frames[place.frame];
+        self.count -= leave_out(frame, place.variable, pattern);
     }
 }
 

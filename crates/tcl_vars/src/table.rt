@@ -1,19 +1,21 @@
-ghost use Rattle.std.specs.Prelude.{◌≡◌, ◌<◌, ◌^◌, [], length, position, slice_get, string_bytes, true, None, Some, IfSome, OnOk, OnErr};
+ghost use Rattle.std.specs.Prelude.{◌≡◌, ◌<◌, ◌^◌, [], filter, length, not, position, slice_get, string_bytes, true, None, Some, IfSome, OnOk, OnErr};
 ghost use Rattle.std.specs.Map.{keys_of, lookup};
-ghost use Rattle.std.specs.Str.{bytes_eq};
+ghost use Rattle.std.specs.Str.{bytes_eq, chars};
 ghost use Rattle.indexmap.specs.IndexMap.{values};
 ghost use Rattle.std.specs.Option.{option_copied};
 ghost use Rattle.std.specs.Borrow.{LendsIf, sem};
 ghost use Rattle.std.specs.Option.{option_copied_mut};
 ghost use Rattle.tcl_vars.specs.contracts.table.Table.{the_row};
+ghost use Rattle.tcl_text.specs.Glob.{glob_matches};
 ghost use Rattle.tcl_vars.specs.Short.{IsShort};
-ghost use Rattle.tcl_vars.specs.Table.{value_at, with_value, without};
+ghost use Rattle.tcl_vars.specs.Table.{value_at, values_but, with_value, without};
 
 use crate::hints::Hints;
 use indexmap::IndexMap;
 use std::alloc::{AllocError, Global};
 use std::cell::Cell;
 use std::marker::Model;
+use tcl_text::Text;
 
 /// How many names a table has at most of which places are hinted: among more, few are found where they stood.
 const MOST_HINTED: usize = 32;
@@ -181,4 +183,22 @@ impl<V: Drop> Table<V> {
     {
         self.entries.shift_remove(name)
     }
+
+    /// Leaves the names that don't match a pattern, with their values and in their order. It takes no memory.
+    pub(crate) fn leave_out(&mut self, pattern: &Text)
+        ensures { self.new ≡ values_but pattern.now self.old }
+    {
+        leave_out(&mut self.entries, pattern);
+    }
+}
+
+/// Leaves the entries whose keys don't match a pattern.
+fn leave_out<V: Drop>(entries: &mut IndexMap<String, V>, pattern: &Text)
+    ensures { entries.new.entries ≡ filter (λ entry. not (glob_matches (chars pattern.now) (chars (string_bytes entry.0)))) entries.old.entries }
+{
+    entries.retain(
+        |name: &String, value: &mut V| -> bool
+            ensures { (result ≡ not (glob_matches (chars pattern.entry.now) (chars (string_bytes name.now)))) × (value.new ≡ value.old) }
+        { !Text::glob_match_str(pattern, name.as_str()) },
+    );
 }

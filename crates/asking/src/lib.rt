@@ -11,8 +11,8 @@
 //! A question that no answer stands behind is asked too, for what it leaves to those below it. A control character (U+0000 to U+001F) stands as
 //! its picture (U+2400 to U+241F), in questions and in answers: `␊` is a newline.
 //!
-//! A program of tables implements [`Fixture`], and calls [`ask_tables`] in its `main` with its [`arguments`]. [`result_of`] and [`error_of`] give
-//! answers their marks.
+//! A program of tables implements [`Fixture`], and calls [`ask_tables`] in its `main` with its [`arguments`]. [`result_of`], [`error_of`],
+//! [`refused`] and [`shown`] give answers their marks, and [`push_barred`] puts bars between texts.
 #![tactic(auto)]
 
 mod answers;
@@ -20,6 +20,6 @@ mod asking;
 mod pictures;
 mod words;
 
-pub use answers::{error_of, result_of};
+pub use answers::{error_of, push_barred, refused, result_of, shown};
 pub use asking::{Fixture, arguments, ask_tables, text_in};
 pub use words::{first_word, number, repeated, words_of};

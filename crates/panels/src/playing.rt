@@ -49,10 +49,9 @@ pub enum BenchFault {
 }
 
 impl From<AllocError> for BenchFault {
-    ghost use Rattle.std.specs.Prelude.{◌≡◌};
-    ghost use Rattle.panels.specs.declared.playing.BenchFault.TheVariants.{NoMemory};
+    ghost use Rattle.panels.specs.declared.playing.BenchFault.{BenchFault};
 
-    ghost from_gives = { λ _ e. e ≡ NoMemory };
+    ghost from_gives = { λ _ e. e ≡ BenchFault.NoMemory };
 
     fn from(_refused: AllocError) -> BenchFault {
         BenchFault::NoMemory
@@ -60,10 +59,9 @@ impl From<AllocError> for BenchFault {
 }
 
 impl From<PlayFault> for BenchFault {
-    ghost use Rattle.std.specs.Prelude.{◌≡◌};
-    ghost use Rattle.panels.specs.declared.playing.BenchFault.TheVariants.{NoMemory};
+    ghost use Rattle.panels.specs.declared.playing.BenchFault.{BenchFault};
 
-    ghost from_gives = { λ _ e. e ≡ NoMemory };
+    ghost from_gives = { λ _ e. e ≡ BenchFault.NoMemory };
 
     /// A text in memory takes all that is written to it.
     fn from(_refused: PlayFault) -> BenchFault {
@@ -72,10 +70,9 @@ impl From<PlayFault> for BenchFault {
 }
 
 impl<T: Drop> From<AllocFailed<T>> for BenchFault {
-    ghost use Rattle.std.specs.Prelude.{◌≡◌};
-    ghost use Rattle.panels.specs.declared.playing.BenchFault.TheVariants.{NoMemory};
+    ghost use Rattle.panels.specs.declared.playing.BenchFault.{BenchFault};
 
-    ghost from_gives = { λ _ e. e ≡ NoMemory };
+    ghost from_gives = { λ _ e. e ≡ BenchFault.NoMemory };
 
     fn from(_refused: AllocFailed<T>) -> BenchFault {
         BenchFault::NoMemory

@@ -1,10 +1,7 @@
 -- Meaning. Names of panels, and lines of a session in its own words.
-use Rattle.std.specs.Prelude.{ℕ, List, [], ◌∷◌, ◌++◌, slice_get, codes, Option, Some, None}
-use Rattle.std.specs.Fmt.{decimal}
-use Rattle.tk_base.specs.Names.{name_of}
+use Rattle.std.specs.Prelude.{ℕ, List, [], ◌∷◌, ◌++◌, slice_get, Option, Some, None}
 use Rattle.tk_route.specs.declared.line.HostLine.{HostLine}
-use Rattle.tk_route.specs.declared.line.HostLine.TheVariants.{Move, Press, Release, Keydown, Keyup, Focus, Rect as Placed}
-use Rattle.tk_session.specs.Session.{rect_fields}
+use Rattle.tk_session.specs.Writing.{fields_with}
 use Rattle.tk_session.specs.declared.session.AppBlock.{AppBlock}
 
 abbrev pub name_in : Option AppBlock → List ℕ
@@ -17,14 +14,7 @@ name_at panels slot = name_in (slice_get panels slot)
 
 -- the fields of a line behind its moment
 abbrev pub line_fields : List AppBlock → HostLine → List (List ℕ)
-line_fields panels (Move x y) = codes "move" ∷ decimal x ∷ decimal y ∷ []
-line_fields panels (Press button) = codes "press" ∷ decimal button ∷ []
-line_fields panels (Release button) = codes "release" ∷ decimal button ∷ []
-line_fields panels (Keydown key) = codes "keydown" ∷ name_of key ∷ []
-line_fields panels (Keyup key) = codes "keyup" ∷ name_of key ∷ []
-line_fields panels (Focus None) = codes "focus" ∷ codes "-" ∷ []
-line_fields panels (Focus (Some slot)) = codes "focus" ∷ name_at panels slot ∷ []
-line_fields panels (Placed slot rect) = codes "rect" ∷ name_at panels slot ∷ rect_fields rect
+line_fields panels line = fields_with (name_at panels) line
 
 -- fields with a blank between two
 abbrev pub spaced : List (List ℕ) → List ℕ

@@ -21,9 +21,9 @@ pub enum Failure {
 
 impl From<AllocError> for Failure {
     ghost use Rattle.std.specs.Prelude.{◌≡◌};
-    ghost use Rattle.panels_text.specs.declared.failure.Failure.TheVariants.{NoMemory};
+    ghost use Rattle.panels_text.specs.declared.failure.Failure.{Failure};
 
-    ghost from_gives = { λ _ failure. failure ≡ NoMemory };
+    ghost from_gives = { λ _ failure. failure ≡ Failure.NoMemory };
 
     fn from(_refused: AllocError) -> Failure {
         Failure::NoMemory
@@ -32,9 +32,9 @@ impl From<AllocError> for Failure {
 
 impl<T: Drop> From<AllocFailed<T>> for Failure {
     ghost use Rattle.std.specs.Prelude.{◌≡◌};
-    ghost use Rattle.panels_text.specs.declared.failure.Failure.TheVariants.{NoMemory};
+    ghost use Rattle.panels_text.specs.declared.failure.Failure.{Failure};
 
-    ghost from_gives = { λ _ failure. failure ≡ NoMemory };
+    ghost from_gives = { λ _ failure. failure ≡ Failure.NoMemory };
 
     fn from(_refused: AllocFailed<T>) -> Failure {
         Failure::NoMemory

@@ -2,16 +2,11 @@
 //!
 //! A question `TYPE FAULT` is answered `=` and the text that the fault shows.
 use anyhow::{Result, bail};
-use asking::first_word;
+use asking::{first_word, shown};
 use std::alloc::Global;
-use std::fmt::Display;
 use tk_route::{HostFault, LineFault};
 use tk_session::WritingFault;
 use tkhost::{InputFault, PlayFault, SessionFault, WriteFault};
-
-fn shown<F: Display + Drop>(alloc: Global, fault: F) -> Result<String> {
-    Ok(format!(in alloc; "={fault}")?)
-}
 
 /// The fault of a number.
 fn line_fault(number: &str) -> Result<LineFault> {

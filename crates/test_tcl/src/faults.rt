@@ -2,19 +2,14 @@
 //!
 //! A question `TYPE FAULT` is answered `=` and the text that the fault shows, which is none of those that a script is told.
 use anyhow::{Result, bail};
-use asking::first_word;
+use asking::{first_word, shown};
 use std::alloc::Global;
-use std::fmt::Display;
 use tcl_expr::{EvalFault, ExprFault, NumberOperator, UnaryOperator};
 use tcl_text::{
     ChangeFault, EditFault, LinkFault, ListFault, NotBoolean, NotInteger, ReadFault, SetFault,
     SplitFault, Text, TextFault, UnsetFault,
 };
 use tcl_words::ParseFault;
-
-fn shown<F: Display + Drop>(alloc: Global, fault: F) -> Result<String> {
-    Ok(format!(in alloc; "={fault}")?)
-}
 
 /// What texts and lists are refused for.
 fn of_text(alloc: Global, fault: &str) -> Result<String> {

@@ -5,7 +5,7 @@
 //! What is refused is answered `!` and its number, or `!` and what it shows where it has none. Memory for the answer is taken before the call, so that a
 //! call that was refused memory may be made once more.
 use anyhow::{Result, bail};
-use asking::{number, result_of, words_of};
+use asking::{number, push_barred, refused, result_of, words_of};
 use std::alloc::Global;
 use tcl_text::{LinkFault, Text};
 use tcl_vars::Scopes;
@@ -14,13 +14,6 @@ use tcl_vars::Scopes;
 #[derive(Drop)]
 pub struct Store {
     scopes: Scopes,
-}
-
-fn refused(alloc: Global, fault: Option<u32>) -> Result<String> {
-    match fault {
-        Some(number) => Ok(format!(in alloc; "!{number}")?),
-        None => bail!("out of memory"),
-    }
 }
 
 impl Store {
@@ -68,10 +61,7 @@ impl Store {
         let pairs = self.scopes.array_pairs(level, name)?;
         let mut told = String::from_str(alloc, "=")?;
         for (place, text) in pairs.as_slice().iter().enumerate() {
-            if place > 0 {
-                told.push('|')?;
-            }
-            told.push_str(text.as_str())?;
+            push_barred(&mut told, place, text.as_str())?;
         }
         Ok(told)
     }

@@ -4,16 +4,9 @@
 //! list form of the words; `number N` the text of an integer, and its copy behind a bar; `new TEXT` how many bytes the text has. What is refused is
 //! answered `!` and its number. A text or a word `*N*TEXT` is TEXT N times.
 use anyhow::{Result, bail};
-use asking::{first_word, number, repeated, result_of, words_of};
+use asking::{first_word, number, push_barred, refused, repeated, result_of, words_of};
 use std::alloc::Global;
 use tcl_text::{Text, TextFault, TextList};
-
-fn refused(alloc: Global, fault: Option<u32>) -> Result<String> {
-    match fault {
-        Some(number) => Ok(format!(in alloc; "!{number}")?),
-        None => bail!("out of memory"),
-    }
-}
 
 fn text_of(alloc: Global, word: &str) -> Result<Text, TextFault> {
     let Ok(characters) = repeated(alloc, word) else {
@@ -32,10 +25,7 @@ fn made(alloc: Global, word: &str) -> Result<String> {
 fn barred(alloc: Global, texts: &[Text]) -> Result<String> {
     let mut told = String::from_str(alloc, "=")?;
     for (place, text) in texts.iter().enumerate() {
-        if place > 0 {
-            told.push('|')?;
-        }
-        told.push_str(text.as_str())?;
+        push_barred(&mut told, place, text.as_str())?;
     }
     Ok(told)
 }

@@ -12,7 +12,7 @@ use crate::bindings::read::event_of;
 use crate::windows::remove;
 use crate::words::{barred_texts, word_of};
 use anyhow::{Result, bail};
-use asking::{error_of, first_word, number, result_of, words_of};
+use asking::{error_of, first_word, number, push_barred, result_of, words_of};
 use std::alloc::Global;
 use tcl_text::{Text, TextFault};
 use tk_base::{Kind, Win};
@@ -44,10 +44,7 @@ fn win_of(word: &str) -> Result<Win> {
 fn told(alloc: Global, scripts: &[Text]) -> Result<String> {
     let mut told = String::from_str(alloc, "=")?;
     for (place, script) in scripts.iter().enumerate() {
-        if place > 0 {
-            told.push('|')?;
-        }
-        told.push_str(script.as_str())?;
+        push_barred(&mut told, place, script.as_str())?;
     }
     Ok(told)
 }

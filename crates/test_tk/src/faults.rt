@@ -2,19 +2,14 @@
 //!
 //! A question `TYPE FAULT` is answered `=` and the text that the fault shows, which is none of those that a script is told.
 use anyhow::{Result, bail};
-use asking::first_word;
+use asking::{first_word, shown};
 use std::alloc::Global;
-use std::fmt::Display;
 use tcl_text::Text;
 use tk_options::OptionFault;
 use tk_patterns::BindFault;
 use tk_sequences::SequenceFault;
 use tk_tree::WindowFault;
 use tk_virtual::VirtualFault;
-
-fn shown<F: Display + Drop>(alloc: Global, fault: F) -> Result<String> {
-    Ok(format!(in alloc; "={fault}")?)
-}
 
 /// What options are refused for.
 fn of_option(alloc: Global, fault: &str) -> Result<String> {

@@ -5,10 +5,10 @@
 //! `!` and its number.
 use crate::words::{barred_texts, word_of};
 use anyhow::{Result, bail};
-use asking::{first_word, result_of};
+use asking::{first_word, refused, result_of};
 use std::alloc::Global;
 use tk_base::Kind;
-use tk_options::{OptionFault, OptionTable};
+use tk_options::OptionTable;
 
 /// The table that the questions are put to.
 #[derive(Drop)]
@@ -28,13 +28,6 @@ pub fn kind_of(word: &str) -> Result<Kind> {
     }
 }
 
-fn refused(alloc: Global, fault: OptionFault) -> Result<String> {
-    match fault.number() {
-        Some(number) => Ok(format!(in alloc; "!{number}")?),
-        None => bail!("out of memory"),
-    }
-}
-
 impl Options {
     pub fn new(alloc: Global) -> Result<Options> {
         Ok(Options {
@@ -46,14 +39,14 @@ impl Options {
         let words = barred_texts(alloc, words)?;
         match self.table.configure(alloc, words.as_slice()) {
             Ok(()) => result_of(alloc, ""),
-            Err(fault) => refused(alloc, fault),
+            Err(fault) => refused(alloc, fault.number()),
         }
     }
 
     fn cget(&self, alloc: Global, word: &str) -> Result<String> {
         match self.table.cget(&word_of(alloc, word)?) {
             Ok(value) => result_of(alloc, value.as_str()),
-            Err(fault) => refused(alloc, fault),
+            Err(fault) => refused(alloc, fault.number()),
         }
     }
 

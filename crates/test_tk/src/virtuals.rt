@@ -5,7 +5,7 @@
 //! answered `!` and its number.
 use crate::words::{texts_of, word_of};
 use anyhow::{Result, bail};
-use asking::{number, result_of, words_of};
+use asking::{number, push_barred, refused, result_of, words_of};
 use std::alloc::Global;
 use tcl_text::{Text, TextFault, TextList};
 use tk_sequences::VirtualName;
@@ -19,12 +19,9 @@ pub struct Virtuals {
 
 /// What a call that tells nothing is answered.
 fn told(alloc: Global, answer: Result<(), VirtualFault>) -> Result<String> {
-    let Err(fault) = answer else {
-        return result_of(alloc, "");
-    };
-    match fault.number() {
-        Some(number) => Ok(format!(in alloc; "!{number}")?),
-        None => bail!("out of memory"),
+    match answer {
+        Ok(()) => result_of(alloc, ""),
+        Err(fault) => refused(alloc, fault.number()),
     }
 }
 
@@ -32,10 +29,7 @@ fn told(alloc: Global, answer: Result<(), VirtualFault>) -> Result<String> {
 fn barred(alloc: Global, texts: &TextList) -> Result<String> {
     let mut told = String::from_str(alloc, "=")?;
     for (place, text) in texts.as_slice().iter().enumerate() {
-        if place > 0 {
-            told.push('|')?;
-        }
-        told.push_str(text.as_str())?;
+        push_barred(&mut told, place, text.as_str())?;
     }
     Ok(told)
 }

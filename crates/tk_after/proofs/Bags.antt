@@ -249,6 +249,20 @@ module _ (stored now : Stored) (is : stored ≡ now) (keyed : AreKeyed stored) (
         back = ap (taken owner entry.id entry.due) new_is ∙ put_given.back ∙ is;
       }
 
+-- an entry that is due was put among the timers
+pub put_timer : (timers new : List (DueKey × WaitingScript)) (idle : List (Name × WaitingScript)) (now : Stored) (is : stored_of timers idle ≡ now) (keyed : AreKeyed (stored_of timers idle))
+    (owner : ℕ) (entry : WaitingScript) (below : AllBelow number_of entry.id (entries_in owner now)) (due : ℕ) (its_due : entry.due ≡ Some due)
+    → new ≡ (given owner entry.id (Some due) entry (stored_of timers idle)).timers → Put now (stored_of new idle) owner entry
+put_timer timers new idle now is keyed owner entry below due its_due new_is =
+    put (stored_of timers idle) now is keyed owner entry below (Some due) its_due (stored_of new idle) (ap (λ ts. stored_of ts idle) new_is)
+
+-- and one that isn't among the idle ones
+pub put_idle : (timers : List (DueKey × WaitingScript)) (idle new : List (Name × WaitingScript)) (now : Stored) (is : stored_of timers idle ≡ now) (keyed : AreKeyed (stored_of timers idle))
+    (owner : ℕ) (entry : WaitingScript) (below : AllBelow number_of entry.id (entries_in owner now)) (its_due : entry.due ≡ None)
+    → new ≡ (given owner entry.id None entry (stored_of timers idle)).idle → Put now (stored_of timers new) owner entry
+put_idle timers idle new now is keyed owner entry below its_due new_is =
+    put (stored_of timers idle) now is keyed owner entry below None its_due (stored_of timers new) (ap (λ ts. stored_of timers ts) new_is)
+
 -- what holds of the entries before and after holds whether or not there was memory
 pub either_way : {A E X : Type 0} (P : List X → Type 0) (r : Result A E) (old whole new : List X) → OnOk r (new ≡ whole) → OnErr r (new ≡ old) → P old → P whole → P new
 either_way P (Ok a) old whole new ok err was is = subst P (sym ok) is

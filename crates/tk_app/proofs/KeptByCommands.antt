@@ -1,5 +1,5 @@
 -- Commands on variables leave the frames where they are, and links lead to earlier ones.
-use Rattle.std.proofs.Common.{◌≡◌, ℕ, ◌-◌, ◌<◌, Bool, true, false, cond, nat_le, nat_lt, ltb-true, List, [], ◌∷◌, length, drop, map, Option, Some, None, Result, Ok, Err, bytes_eq, codes, refl, arith}
+use Rattle.std.proofs.Common.{◌≡◌, ℕ, ◌-◌, ◌<◌, Bool, true, false, cond, nat_le, nat_lt, ltb-true, List, [], ◌∷◌, length, drop, Option, Some, None, Result, Ok, Err, bytes_eq, codes, refl, arith}
 use Rattle.std.specs.Prelude.{◌==◌, ◌%◌}
 use Rattle.std.specs.List.{list_any}
 use Rattle.std.proofs.lemmas.Bool.{eqb-false}
@@ -7,11 +7,11 @@ use Rattle.tcl_text.specs.Answers.{Answer, items_in}
 use Rattle.tcl_text.specs.declared.fault.LinkFault.{LinkFault}
 use Rattle.tcl_text.specs.declared.fault.SetFault.{SetFault}
 use Rattle.tcl_text.specs.declared.fault.UnsetFault.{UnsetFault}
-use Rattle.tcl_vars.specs.Store.{Store, elements_in, is_element_in, variable_in, with_array, with_element, with_link, with_variable, without_element, without_variable}
+use Rattle.tcl_vars.specs.Store.{Store, elements_in, is_element_in, variable_in, with_array, with_element, with_link, with_variable, without_variable}
 use Rattle.tcl_vars.specs.Table.{Table}
 use Rattle.tcl_vars.specs.Texts.{element_name}
 use Rattle.tcl_table.specs.Levels.{here}
-use Rattle.tcl_commands.specs.Arrays.{array_by, array_command_named, array_done, array_set, array_unset, array_words, elements_named, elements_wanted, make_array, odd_key, set_element, set_even, set_items, set_list, set_told, unset_array, unset_element}
+use Rattle.tcl_commands.specs.Arrays.{array_by, array_command_named, array_done, array_set, array_unset, array_words, make_array, odd_key, set_element, set_even, set_items, set_list, set_told, unset_array}
 use Rattle.tcl_commands.specs.Commands.{command_done}
 use Rattle.tcl_commands.specs.declared.arrays.ArrayCommand.{ArrayCommand}
 use Rattle.tcl_commands.specs.declared.arrays.ArrayCommand.TheVariants as sub
@@ -28,7 +28,7 @@ use Rattle.tcl_control.specs.Commands.{code_number, caught_ending, levels_left, 
 use Rattle.tcl_control.specs.declared.code.Code.{Code}
 use Rattle.tcl_control.specs.Loops.{Tested, More, NoMore, Fails, after_assigned, items_tested}
 use Rattle.tcl_control.specs.Variables.{linked_ending, place_among, upvar_at, upvar_ending}
-use Rattle.tk_app.proofs.KeptFrames.{Keeps, KeepsIf, after, array_made, element_set, element_unset, linked, same, variable_set, variable_unset}
+use Rattle.tk_app.proofs.KeptFrames.{Keeps, KeepsIf, after, array_made, element_set, elements_unset, linked, same, variable_set, variable_unset}
 
 -- ── steps one after another ──
 
@@ -142,9 +142,7 @@ unset_array_kept frame name store (Some elements) = one_kept store (unset_step t
 array_unset_kept : (frame : ℕ) (words : List (List ℕ)) (store : Store) → Keeps store (array_unset frame words store).store
 array_unset_kept frame [] store = same store
 array_unset_kept frame (name ∷ []) store = unset_array_kept frame name store (elements_in store frame name)
-array_unset_kept frame (name ∷ pattern ∷ []) store =
-    each_kept (unset_element frame name) (λ index store. unset_told_kept true name store (without_element store frame name index) (element_unset store frame name index))
-    (map (λ e. e.0) (elements_wanted (Some pattern) (elements_named frame name store))) store
+array_unset_kept frame (name ∷ pattern ∷ []) store = elements_unset store frame name pattern
 array_unset_kept frame (name ∷ pattern ∷ word ∷ words) store = same store
 
 array_done_kept : (named : ArrayCommand) (frame : ℕ) (words : List (List ℕ)) (store : Store) → Keeps store (array_done named frame words store).store

@@ -10,8 +10,8 @@ use Rattle.tcl_vars.specs.declared.content.Content.{Content}
 use Rattle.tcl_vars.specs.declared.content.Content.TheVariants.{Scalar, Array, Link}
 use Rattle.tcl_vars.specs.Name.{Place}
 use Rattle.tcl_vars.specs.Links.{AllBelow, FramesDescend, IsBelow}
-use Rattle.tcl_vars.specs.Store.{Frame, Store, array_state, content_at, content_with, content_without, element_place_in, frame_at, frame_with_rest, holds_value, is_plain_name, place_in, variable_count, variable_place, with_array, with_array_at, with_array_of, with_content, with_element, with_link, with_new_content, with_rest, with_text_at, with_variable, within_variables, without_element, without_text_at, without_variable}
-use Rattle.tcl_vars.specs.Table.{value_at, with_value, without}
+use Rattle.tcl_vars.specs.Store.{Frame, Store, array_state, content_at, content_with, content_without, element_place_in, elements_at, frame_at, frame_with_rest, holds_value, is_plain_name, place_in, variable_count, variable_place, with_array, with_array_at, with_array_of, with_content, with_element, with_link, with_new_content, with_rest, with_text_at, with_variable, within_variables, without_elements, without_elements_at, without_elements_of, without_text_at, without_variable}
+use Rattle.tcl_vars.specs.Table.{value_at, values_but, with_value, without}
 use Rattle.tcl_vars.proofs.BelowLemmas.{AllBelow-with_value, AllBelow-without, content_with-below}
 
 pub record Keeps (old new : Store) : Type 0 where
@@ -145,6 +145,14 @@ pub variable_unset : (store : Store) (frame : ℕ) (name : List ℕ) → KeepsIf
 unfolding without_variable
 variable_unset store frame name = text_unset store (place_in store frame name)
 
-pub element_unset : (store : Store) (frame : ℕ) (name index : List ℕ) → KeepsIf store (without_element store frame name index)
-unfolding without_element
-element_unset store frame name index = text_unset store (element_place_in store frame name index)
+elements_of_kept : (store : Store) (pattern : List ℕ) (place : Place) (elements : Option (List (List ℕ × List ℕ))) → Keeps store (without_elements_of store pattern place elements)
+elements_of_kept store pattern place None = same store
+elements_of_kept store pattern place (Some elements) = content_set store place (Array (values_but pattern elements)) tt
+
+elements_at_kept : (store : Store) (pattern : List ℕ) (place : Option Place) → Keeps store (without_elements_at store pattern place)
+elements_at_kept store pattern None = same store
+elements_at_kept store pattern (Some place) = elements_of_kept store pattern place (elements_at store (Some place))
+
+pub elements_unset : (store : Store) (frame : ℕ) (name pattern : List ℕ) → Keeps store (without_elements store frame name pattern)
+unfolding without_elements
+elements_unset store frame name pattern = elements_at_kept store pattern (place_in store frame name)

@@ -35,7 +35,6 @@ pub mod Passing
 mod Places
 mod PostOrder
 mod PreOrder
-mod Pushes
 pub mod Reached
 pub mod Rounds
 pub mod Settled

@@ -7,9 +7,8 @@ use Rattle.tk_packer.specs.declared.changes.PlaceChange.{PlaceChange}
 use Rattle.tk_sequences.specs.declared.event.Event.{Event}
 use Rattle.tk_screen.specs.Layout.{changes_due, laid_out_windowing}
 use Rattle.tk_screen.specs.Own.{Windowing}
-use Rattle.tk_screen.proofs.Settled.{nothing_laid}
 use Rattle.tk_app.proofs.Left.{laid_path}
-use Rattle.tk_screen.proofs.Twice.{laid_twice}
+use Rattle.tk_screen.proofs.Twice.{laid_twice, nothing_laid}
 use Rattle.tk_tree.specs.declared.window.Window.{Window}
 use Rattle.tk_tree.specs.Own.{IsSound, at_path, child_numbers, window_at}
 use Rattle.tk_panel.specs.declared.job.Home.{Home}

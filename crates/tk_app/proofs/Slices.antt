@@ -118,7 +118,7 @@ module _ {M : Type 0} (answer : M → Meaning) where
   -- ── what is under way ──
 
   -- nothing is under way once it is done
-  done_rests : (moment : ℕ) (part : Part M) → (stage_done answer moment part).work ≡ Rests
+  pub done_rests : (moment : ℕ) (part : Part M) → (stage_done answer moment part).work ≡ Rests
   unfolding stage_done
   done_rests moment part = by part.work
     where

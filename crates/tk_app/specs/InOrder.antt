@@ -43,15 +43,21 @@ AreInOrder own = IsInOrder own.tree own.packs.packs
 
 -- ── whatever is done ──
 
--- a script at global level leaves them so, by whatever meets the equation of `update`
-abbrev pub ScriptsKeepOrder : Type 0
-ScriptsKeepOrder = (update : Update) → IsUpdate update → (room : ℕ) (script : List ℕ) (state : State Seen) → AreInOrder state.shows.panel.windowing
-    → EndsWith AreInOrder (global_meaning (scripts_in update room) script state)
+-- a script at global level leaves windows as they were in this, by whatever meets the equation of `update`
+abbrev pub ScriptsKeep : (Windowing → Type 0) → Type 0
+ScriptsKeep Holds = (update : Update) → IsUpdate update → (room : ℕ) (script : List ℕ) (state : State Seen) → Holds state.shows.panel.windowing
+    → EndsWith Holds (global_meaning (scripts_in update room) script state)
 
 -- and so does each item of what is to be done at a moment: *Dispatch* of an event, a timer, a layout, a round of idle scripts
+abbrev pub ItemsKeep : (Windowing → Type 0) → Type 0
+ItemsKeep Holds = (update : Update) → IsUpdate update → (room : ℕ) (state : State Seen) (item : Outcome Seen) → Holds state.shows.panel.windowing
+    → first_item (scripts_in update room) state ≡ Some item → EndsWith Holds item
+
+abbrev pub ScriptsKeepOrder : Type 0
+ScriptsKeepOrder = ScriptsKeep AreInOrder
+
 abbrev pub ItemsKeepOrder : Type 0
-ItemsKeepOrder = (update : Update) → IsUpdate update → (room : ℕ) (state : State Seen) (item : Outcome Seen) → AreInOrder state.shows.panel.windowing
-    → first_item (scripts_in update room) state ≡ Some item → EndsWith AreInOrder item
+ItemsKeepOrder = ItemsKeep AreInOrder
 
 -- so they are in an application from its beginning on, while it runs
 abbrev pub StaysInOrder : {M : Type 0} → (M → Meaning) → Type 0

@@ -1,8 +1,7 @@
 -- Meaning. The windows of an application lie near one another, whatever its scripts do: each ends within the greatest side of a rectangle, from its parent's
 -- corner. So no place of a window is too far off to be told (*Told*).
-use Rattle.std.specs.Prelude.{◌≡◌, ◌+◌, ◌*◌, ◌≤◌, ℕ, List, Some}
+use Rattle.std.specs.Prelude.{◌+◌, ◌*◌, ◌≤◌, ℕ, List}
 use Rattle.std.specs.List.{AllByRecursion}
-use Rattle.tcl_interp.specs.Evaluation.{State, Outcome}
 use Rattle.tk_base.specs.Rect.{most_pixels}
 use Rattle.tk_base.specs.declared.local_event.LocalEvent.{LocalEvent}
 use Rattle.tk_screen.specs.Layout.{size_of}
@@ -11,14 +10,14 @@ use Rattle.tk_tree.specs.Corners.{corner}
 use Rattle.tk_tree.specs.declared.window.Window.{Window}
 use Rattle.tk_tree.specs.Own.{IsSound, Tree, most_windows}
 use Rattle.tk_app.specs.Application.{Application, fresh}
-use Rattle.tk_app.specs.Commands.{Update, scripts_in}
-use Rattle.tk_app.specs.Dispatch.{Action, global_meaning}
-use Rattle.tk_app.specs.Items.{first_item}
+use Rattle.tk_app.specs.Commands.{Update}
+use Rattle.tk_app.specs.Dispatch.{Action}
+use Rattle.tk_app.specs.InOrder.{ItemsKeep, ScriptsKeep}
 use Rattle.tk_app.specs.Moments.{delivered, settled_by, started_by}
 use Rattle.tk_app.specs.Ranges.{IsEventInRange, IsSize}
-use Rattle.tk_app.specs.Seen.{Meaning, Seen}
+use Rattle.tk_app.specs.Seen.{Meaning}
 use Rattle.tk_app.specs.Settle.{IsSettle, IsUpdate}
-use Rattle.tk_app.specs.Sound.{EndsWith, RunsWith}
+use Rattle.tk_app.specs.Sound.{RunsWith}
 use Rattle.tk_app.specs.Spec.{Spec}
 
 -- a window ends within the greatest side of a rectangle, from its parent's corner
@@ -36,15 +35,13 @@ AreNear own = IsNear own.tree (size_of own)
 
 -- ── whatever is done ──
 
--- a script at global level leaves them so, by whatever meets the equation of `update`
+-- a script at global level leaves them so
 abbrev pub ScriptsKeepNear : Type 0
-ScriptsKeepNear = (update : Update) → IsUpdate update → (room : ℕ) (script : List ℕ) (state : State Seen) → AreNear state.shows.panel.windowing
-    → EndsWith AreNear (global_meaning (scripts_in update room) script state)
+ScriptsKeepNear = ScriptsKeep AreNear
 
--- and so does each item of what is to be done at a moment: *Dispatch* of an event, a timer, a layout, a round of idle scripts
+-- and so does each item of what is to be done at a moment
 abbrev pub ItemsKeepNear : Type 0
-ItemsKeepNear = (update : Update) → IsUpdate update → (room : ℕ) (state : State Seen) (item : Outcome Seen) → AreNear state.shows.panel.windowing
-    → first_item (scripts_in update room) state ≡ Some item → EndsWith AreNear item
+ItemsKeepNear = ItemsKeep AreNear
 
 -- the windows of an application lie so while it runs
 abbrev pub RunsNear : {M : Type 0} → Application M → Type 0

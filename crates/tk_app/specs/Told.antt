@@ -11,7 +11,7 @@ use Rattle.tk_inputs.specs.declared.pointer.Pointer.{Pointer}
 use Rattle.tk_inputs.specs.declared.pointer_event.PointerEvent.{PointerEvent}
 use Rattle.tk_inputs.specs.declared.pointer_event.PointerKind.{PointerKind}
 use Rattle.tk_inputs.specs.declared.pointer_event.PointerKind.TheVariants.{Press, Release}
-use Rattle.tk_inputs.specs.Deliver.{Arrivals, arrived_as, of_window, pointer_line, way_of, way_under}
+use Rattle.tk_inputs.specs.Deliver.{Arrivals, arrived_as, of_window, pointed_with, pointer_line, way_of, way_under}
 use Rattle.tk_inputs.specs.Events.{detail_of, plain_event, type_of}
 use Rattle.tk_inputs.specs.Pointer.{moved, moved_told, pressed, pressed_told, released, released_told}
 use Rattle.tk_packer.specs.declared.changes.PlaceChange.{PlaceChange}
@@ -55,10 +55,7 @@ whole_events line own told = of_window (λ window. whole_event line told.kind wi
 
 -- windows are told this, and the pointer is there
 abbrev pub pointed_whole : PointerLine → List PointerEvent → Pointer → Tree → Arrivals → Arrivals
-pointed_whole line told pointer own arrivals = record {
-  input = record arrivals.input { pointer = pointer };
-  queue = arrivals.queue ++ flat_map (whole_events line own) told;
-}
+pointed_whole line told pointer own arrivals = pointed_with (flat_map (whole_events line own) told) pointer arrivals
 
 -- what a line gives: a move, a press or a release tells these, and another line what it tells anyhow
 abbrev pub arrived_whole : LocalKind → LocalEvent → Tree → Arrivals → Arrivals

@@ -7,4 +7,5 @@ pub mod Line
 pub mod Names
 pub mod Numbered
 pub mod Rect
+pub mod Steps
 pub mod Table

@@ -6,13 +6,14 @@ use Rattle.tk_app.specs.Rounds.{one_turn}
 use Rattle.tk_app.specs.Stages.{earlier, first_moment_due}
 use Rattle.tk_app.proofs.Reached.{Reached, TookTurn, reached_more}
 use Rattle.tk_app.proofs.Rounds.{sum-cons}
+use Rattle.tk_app.proofs.Slices.{done_rests}
 use Rattle.tk_app.specs.declared.state.AppEnd.{AppEnd}
 use Rattle.tk_app.specs.declared.state.AppEnd.TheVariants.{Settled, More, Stopped}
 use Rattle.tk_app.specs.declared.state.AppState.{AppState}
 use Rattle.tk_app.specs.declared.state.AppState.TheVariants.{Running, Exhausted, Closed}
 use Rattle.tk_app.specs.Application.{next_due}
 use Rattle.tk_app.specs.MomentsByJob.{settled}
-use Rattle.tk_app.specs.Part.{Part, Work, Rests, done_as, is_under_way, needs, settling_as, settling_begun, stage_done}
+use Rattle.tk_app.specs.Part.{Part, Work, Rests, is_under_way, needs, settling_as, settling_begun, stage_done}
 use Rattle.tk_app.specs.Turns.{Applications, SettlesSlot}
 use Rattle.tk_host.specs.Slots.{TakesTurn}
 use Rattle.tk_host.specs.Turns.{applications}
@@ -159,17 +160,9 @@ module _ {M : Type 0} (answer : M → Meaning) where
 
   -- ── once all is done ──
 
-  rests_after : (moment : ℕ) (part : Part M) → (stage_done answer moment part).work ≡ Rests
-  unfolding stage_done
-  rests_after moment part = by part.work
-    where
-      by : (work : Work) → (done_as answer moment work part.application).work ≡ Rests
-      by Rests = refl
-      by work = refl
-
   needs_done : (moment : ℕ) (part : Part M) → needs answer moment (stage_done answer moment part) ≡ 0
   needs_done moment part =
-      ap (λ (p : Part M). (stage_done answer moment part).application.steps - p.application.steps) (done_at_rest answer moment (stage_done answer moment part) (rests_after moment part)) ∙ omega arith
+      ap (λ (p : Part M). (stage_done answer moment part).application.steps - p.application.steps) (done_at_rest answer moment (stage_done answer moment part) (done_rests answer moment part)) ∙ omega arith
 
   pub none_needed : (moment : ℕ) (parts : List (Part M)) → sum (map (needs answer moment) (map (stage_done answer moment) parts)) ≡ 0
   none_needed moment [] = refl

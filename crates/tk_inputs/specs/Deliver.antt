@@ -67,12 +67,12 @@ way_under _ _ own = []
 abbrev pub told_events : PointerLine → Tree → PointerEvent → List Event
 told_events line own told = of_window (λ window. pointer_event line told.kind window (corner told.window own)) (window_at told.window own)
 
--- windows are told this, and the pointer is there
+-- windows are told these events, and the pointer is there
+abbrev pub pointed_with : List Event → Pointer → Arrivals → Arrivals
+pointed_with events pointer arrivals = record { input = record arrivals.input { pointer = pointer }; queue = arrivals.queue ++ events }
+
 abbrev pub pointed : PointerLine → List PointerEvent → Pointer → Tree → Arrivals → Arrivals
-pointed line told pointer own arrivals = record {
-  input = record arrivals.input { pointer = pointer };
-  queue = arrivals.queue ++ flat_map (told_events line own) told;
-}
+pointed line told pointer own arrivals = pointed_with (flat_map (told_events line own) told) pointer arrivals
 
 abbrev pub moved_by : PointerLine → Tree → Arrivals → Arrivals
 moved_by line own arrivals =

@@ -7,8 +7,13 @@ use Rattle.tk_options.specs.declared.option.OptionEntry.{OptionEntry}
 use Rattle.tk_options.specs.declared.form.Form.TheVariants.{AnyText}
 use Rattle.tk_options.specs.declared.option.OptionName.TheVariants.{Text}
 use Rattle.tk_options.specs.Rows.{row}
-use Rattle.tk_options.specs.Options.{only}
+use Rattle.tk_options.specs.Options.{is_begun, only}
 use Rattle.tk_options.proofs.Places.{filter_at, filter_nowhere}
+
+-- where the first option stands that begins with a word, by what was found for the same bytes
+pub found_at : (word said : List ℕ) (entries : List OptionEntry) (found place : Option ℕ) → said ≡ word → found ≡ position (is_begun said) entries → found ≡ place
+    → position (is_begun word) entries ≡ place
+found_at word said entries found place same is here = ap (λ (w : List ℕ). position (is_begun w) entries) (sym same) ∙ sym is ∙ here
 
 pub only_none : (word : List ℕ) (p : OptionEntry → Bool) (entries : List OptionEntry) → position p entries ≡ None
     → only word (filter p entries) ≡ Err (UnknownOption word)

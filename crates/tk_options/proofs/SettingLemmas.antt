@@ -1,5 +1,6 @@
 -- Settings in their order.
 use Rattle.std.proofs.Common.{◌≡◌, ℕ, List, [], ◌∷◌, ◌++◌, Ok, Err, refl, sym, ap, ◌∙◌, append_assoc, append-nil}
+use Rattle.tk_base.specs.Steps.{◌>>=◌}
 use Rattle.tk_options.specs.declared.fault.OptionFault.{OptionFault}
 use Rattle.tk_options.specs.declared.option.OptionEntry.{OptionEntry}
 use Rattle.tk_options.specs.declared.settings.Setting.{Setting}
@@ -22,7 +23,7 @@ pub settings_behind-more : (front : List Setting) (first : Setting) (word value 
     → settings_behind (front ++ first ∷ []) (settings words table) ≡ settings_behind front (settings (word ∷ value ∷ words) table)
 settings_behind-more front first word value words table is = rw is (by (settings words table))
   where
-    by : (rest : OptionResult (List Setting)) → settings_behind (front ++ first ∷ []) rest ≡ settings_behind front (Rattle.tk_options.specs.Options.◌>>=◌ rest (λ others. Ok (first ∷ others)))
+    by : (rest : OptionResult (List Setting)) → settings_behind (front ++ first ∷ []) rest ≡ settings_behind front (rest >>= λ others. Ok (first ∷ others))
     by (Ok others) = ap Ok (append_assoc front (first ∷ []) others)
     by (Err fault) = refl
 

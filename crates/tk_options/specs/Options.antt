@@ -2,6 +2,7 @@
 use Rattle.std.specs.Prelude.{ℕ, ◌<◌, Bool, if◌then◌else◌, List, [], ◌∷◌, length, take, filter, find, fold, Option, Some, None, option_map, unwrap_or, Result, Ok, Err}
 use Rattle.std.specs.Option.{option_map_or, option_or}
 use Rattle.std.specs.Str.{bytes_eq}
+use Rattle.tk_base.specs.Steps.{◌>>=◌}
 use Rattle.tcl_text.specs.Readings.{list_form}
 use Rattle.tk_options.specs.Forms.{amount_in, value_in}
 use Rattle.tk_options.specs.Names.{name_of, long_name}
@@ -15,12 +16,6 @@ use Rattle.tcl_text.specs.Limits.{most_bytes}
 -- a call's outcome, or why it was refused
 abbrev pub OptionResult : Type 0 → Type 0
 OptionResult T = Result T OptionFault
-
--- the rest of a call, unless a step before it was refused
-infixl 10 ◌>>=◌
-abbrev pub ◌>>=◌ : {T U : Type 0} → OptionResult T → (T → OptionResult U) → OptionResult U
-Ok value >>= rest = rest value
-Err fault >>= rest = Err fault
 
 -- ---- which option a word means
 

@@ -89,10 +89,9 @@ impl Debug for OptionFault {
 }
 
 impl From<AllocError> for OptionFault {
-    ghost use Rattle.std.specs.Prelude.{◌≡◌};
-    ghost use Rattle.tk_options.specs.declared.fault.OptionFault.TheVariants.{NoMemory};
+    ghost use Rattle.tk_options.specs.declared.fault.OptionFault.{OptionFault};
 
-    ghost from_gives = { λ _ e. e ≡ NoMemory };
+    ghost from_gives = { λ _ e. e ≡ OptionFault.NoMemory };
 
     fn from(_refused: AllocError) -> OptionFault {
         OptionFault::NoMemory
@@ -100,10 +99,9 @@ impl From<AllocError> for OptionFault {
 }
 
 impl<T: Drop> From<AllocFailed<T>> for OptionFault {
-    ghost use Rattle.std.specs.Prelude.{◌≡◌};
-    ghost use Rattle.tk_options.specs.declared.fault.OptionFault.TheVariants.{NoMemory};
+    ghost use Rattle.tk_options.specs.declared.fault.OptionFault.{OptionFault};
 
-    ghost from_gives = { λ _ e. e ≡ NoMemory };
+    ghost from_gives = { λ _ e. e ≡ OptionFault.NoMemory };
 
     fn from(_refused: AllocFailed<T>) -> OptionFault {
         OptionFault::NoMemory

@@ -1,4 +1,6 @@
 //! Why lines, and the calls that do what lines say, are refused.
+ghost use Rattle.std.specs.Prelude.{◌≡◌};
+
 use std::alloc::{AllocError, AllocFailed};
 use thiserror::Error;
 
@@ -98,10 +100,9 @@ impl From<LineFault> for HostFault {
 }
 
 impl From<AllocError> for HostFault {
-    ghost use Rattle.std.specs.Prelude.{◌≡◌};
-    ghost use Rattle.tk_route.specs.declared.fault.HostFault.TheVariants.{NoMemory};
+    ghost use Rattle.tk_route.specs.declared.fault.HostFault.{HostFault};
 
-    ghost from_gives = { λ _ e. e ≡ NoMemory };
+    ghost from_gives = { λ _ e. e ≡ HostFault.NoMemory };
 
     fn from(_refused: AllocError) -> HostFault {
         HostFault::NoMemory
@@ -109,10 +110,9 @@ impl From<AllocError> for HostFault {
 }
 
 impl<T: Drop> From<AllocFailed<T>> for HostFault {
-    ghost use Rattle.std.specs.Prelude.{◌≡◌};
-    ghost use Rattle.tk_route.specs.declared.fault.HostFault.TheVariants.{NoMemory};
+    ghost use Rattle.tk_route.specs.declared.fault.HostFault.{HostFault};
 
-    ghost from_gives = { λ _ e. e ≡ NoMemory };
+    ghost from_gives = { λ _ e. e ≡ HostFault.NoMemory };
 
     fn from(_refused: AllocFailed<T>) -> HostFault {
         HostFault::NoMemory

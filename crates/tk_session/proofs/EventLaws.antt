@@ -55,31 +55,27 @@ move_of-some format apps fields line h =
       range = (x_is.2, y_is.2);
     }
 
-press_read : (format : Format) (apps : List AppBlock) (field : List ℕ) (line : HostLine) → option_map Press (button_of field) ≡ Some line → IsEventRead format apps (codes "press" ++ 32 ∷ field) line
-press_read format apps field line h =
-    let button = mapped Press (button_of field) line h in
+-- a word and a button
+button_read : (format : Format) (apps : List AppBlock) (word : List ℕ) (made : ℕ → HostLine) → ((button : ℕ) → SayEvent format apps (word ∷ decimal button ∷ []) (made button))
+    → ((button : ℕ) → 1 ≤ button → button ≤ 5 → IsLineInRange (made button))
+    → (field : List ℕ) (line : HostLine) → option_map made (button_of field) ≡ Some line → IsEventRead format apps (word ++ 32 ∷ field) line
+button_read format apps word made says range field line h =
+    let button = mapped made (button_of field) line h in
     let is = number_of-some 1 5 field button.0 (lit< tt) button.1.0 in
-    let P : HostLine → Type 0 = λ l. IsEventRead format apps (codes "press" ++ 32 ∷ field) l in
+    let P : HostLine → Type 0 = λ l. IsEventRead format apps (word ++ 32 ∷ field) l in
     subst P button.1.1 record {
-      first = codes "press";
+      first = word;
       others = decimal button.0 ∷ [];
-      spells = ap (λ (rest : List ℕ). codes "press" ++ 32 ∷ rest) is.0;
-      says = refl;
-      range = (is.1, is.2);
+      spells = ap (λ (rest : List ℕ). word ++ 32 ∷ rest) is.0;
+      says = says button.0;
+      range = range button.0 is.1 is.2;
     }
 
+press_read : (format : Format) (apps : List AppBlock) (field : List ℕ) (line : HostLine) → option_map Press (button_of field) ≡ Some line → IsEventRead format apps (codes "press" ++ 32 ∷ field) line
+press_read format apps field line h = button_read format apps (codes "press") Press (λ button. refl) (λ button low high. (low, high)) field line h
+
 release_read : (format : Format) (apps : List AppBlock) (field : List ℕ) (line : HostLine) → option_map Release (button_of field) ≡ Some line → IsEventRead format apps (codes "release" ++ 32 ∷ field) line
-release_read format apps field line h =
-    let button = mapped Release (button_of field) line h in
-    let is = number_of-some 1 5 field button.0 (lit< tt) button.1.0 in
-    let P : HostLine → Type 0 = λ l. IsEventRead format apps (codes "release" ++ 32 ∷ field) l in
-    subst P button.1.1 record {
-      first = codes "release";
-      others = decimal button.0 ∷ [];
-      spells = ap (λ (rest : List ℕ). codes "release" ++ 32 ∷ rest) is.0;
-      says = refl;
-      range = (is.1, is.2);
-    }
+release_read format apps field line h = button_read format apps (codes "release") Release (λ button. refl) (λ button low high. (low, high)) field line h
 
 key_of-some : (field : List ℕ) (key : ℕ) → key_of field ≡ Some key → IsUtf8 field × (key_named field ≡ Some key)
 key_of-some field key h =
@@ -88,19 +84,21 @@ key_of-some field key h =
     let P : List ℕ → Type 0 = λ name. key_named name ≡ Some key in
     (IsUtf8-from_is_utf8 field is.0, subst P (sym is.1) read.1.1)
 
-keydown_read : (format : Format) (apps : List AppBlock) (field : List ℕ) (line : HostLine) → option_map Keydown (key_of field) ≡ Some line → IsEventRead format apps (codes "keydown" ++ 32 ∷ field) line
-keydown_read format apps field line h =
-    let key = mapped Keydown (key_of field) line h in
+-- a word and the name of a key
+named_read : (format : Format) (apps : List AppBlock) (word : List ℕ) (made : ℕ → HostLine)
+    → ((field : List ℕ) (key : ℕ) → IsUtf8 field → key_named field ≡ Some key → SayEvent format apps (word ∷ field ∷ []) (made key)) → ((key : ℕ) → IsLineInRange (made key))
+    → (field : List ℕ) (line : HostLine) → option_map made (key_of field) ≡ Some line → IsEventRead format apps (word ++ 32 ∷ field) line
+named_read format apps word made says range field line h =
+    let key = mapped made (key_of field) line h in
     let is = key_of-some field key.0 key.1.0 in
-    let P : HostLine → Type 0 = λ l. IsEventRead format apps (codes "keydown" ++ 32 ∷ field) l in
-    subst P key.1.1 record { first = codes "keydown"; others = field ∷ []; spells = refl; says = (field, refl, is.0, is.1); range = tt }
+    let P : HostLine → Type 0 = λ l. IsEventRead format apps (word ++ 32 ∷ field) l in
+    subst P key.1.1 record { first = word; others = field ∷ []; spells = refl; says = says field key.0 is.0 is.1; range = range key.0 }
+
+keydown_read : (format : Format) (apps : List AppBlock) (field : List ℕ) (line : HostLine) → option_map Keydown (key_of field) ≡ Some line → IsEventRead format apps (codes "keydown" ++ 32 ∷ field) line
+keydown_read format apps field line h = named_read format apps (codes "keydown") Keydown (λ field key utf8 named. (field, refl, utf8, named)) (λ key. tt) field line h
 
 keyup_read : (format : Format) (apps : List AppBlock) (field : List ℕ) (line : HostLine) → option_map Keyup (key_of field) ≡ Some line → IsEventRead format apps (codes "keyup" ++ 32 ∷ field) line
-keyup_read format apps field line h =
-    let key = mapped Keyup (key_of field) line h in
-    let is = key_of-some field key.0 key.1.0 in
-    let P : HostLine → Type 0 = λ l. IsEventRead format apps (codes "keyup" ++ 32 ∷ field) l in
-    subst P key.1.1 record { first = codes "keyup"; others = field ∷ []; spells = refl; says = (field, refl, is.0, is.1); range = tt }
+keyup_read format apps field line h = named_read format apps (codes "keyup") Keyup (λ field key utf8 named. (field, refl, utf8, named)) (λ key. tt) field line h
 
 app_of-some : (apps : List AppBlock) (field : List ℕ) (slot : ℕ) → app_of apps field ≡ Some slot → IsName field × (slot ≡ slot_of field apps)
 app_of-some apps field slot h =
@@ -204,49 +202,39 @@ FoundIn format apps moment fields line = event_line_of format apps (spelled (dec
 found_in : (format : Format) (apps : List AppBlock) (moment : ℕ) (line : HostLine) (made fields : List (List ℕ)) → fields ≡ made → FoundIn format apps moment made line → FoundIn format apps moment fields line
 found_in format apps moment line made fields is found = ap (λ (fs : List (List ℕ)). event_line_of format apps (spelled (decimal moment ∷ fs))) is ∙ found
 
+-- a moment is read back, and what stands behind it is left
+moment_read : (moment : ℕ) (rest : List ℕ) → moment ≤ 1000000000000 → number_field 0 1000000000000 (decimal moment ++ 32 ∷ rest) ≡ Some (moment, rest)
+moment_read moment rest fits = number_field-decimal 0 1000000000000 moment rest (lit< tt) (omega arith) fits
+
 event_line_of-fields : (format : Format) (apps : List AppBlock) (moment : ℕ) (line : HostLine) (fields : List (List ℕ)) → moment ≤ 1000000000000
     → SayEvent format apps fields line → IsLineInRange line → FoundIn format apps moment fields line
 unfolding event_line_of event_of move_of focus_of placed_of
 event_line_of-fields format apps moment (Move x y) fields fits says range =
     found_in format apps moment (Move x y) (codes "move" ∷ decimal x ∷ decimal y ∷ []) fields says
     (rw (
-      number_field-decimal 0 1000000000000 moment (codes "move" ++ 32 ∷ (decimal x ++ 32 ∷ decimal y)) (lit< tt) (omega arith) fits,
+      moment_read moment (codes "move" ++ 32 ∷ (decimal x ++ 32 ∷ decimal y)) fits,
       number_field-decimal 0 65535 x (decimal y) (lit< tt) (omega arith) range.0,
       number_of-decimal 0 65535 y (lit< tt) (omega arith) range.1,
     ) refl)
 event_line_of-fields format apps moment (Press button) fields fits says range =
     found_in format apps moment (Press button) (codes "press" ∷ decimal button ∷ []) fields says
-    (rw (
-      number_field-decimal 0 1000000000000 moment (codes "press" ++ 32 ∷ decimal button) (lit< tt) (omega arith) fits,
-      number_of-decimal 1 5 button (lit< tt) range.0 range.1,
-    ) refl)
+    (rw (moment_read moment (codes "press" ++ 32 ∷ decimal button) fits, number_of-decimal 1 5 button (lit< tt) range.0 range.1) refl)
 event_line_of-fields format apps moment (Release button) fields fits says range =
     found_in format apps moment (Release button) (codes "release" ∷ decimal button ∷ []) fields says
-    (rw (
-      number_field-decimal 0 1000000000000 moment (codes "release" ++ 32 ∷ decimal button) (lit< tt) (omega arith) fits,
-      number_of-decimal 1 5 button (lit< tt) range.0 range.1,
-    ) refl)
+    (rw (moment_read moment (codes "release" ++ 32 ∷ decimal button) fits, number_of-decimal 1 5 button (lit< tt) range.0 range.1) refl)
 event_line_of-fields format apps moment (Keydown key) fields fits says range =
     found_in format apps moment (Keydown key) (codes "keydown" ∷ says.0 ∷ []) fields says.1
-    (rw (
-      number_field-decimal 0 1000000000000 moment (codes "keydown" ++ 32 ∷ says.0) (lit< tt) (omega arith) fits,
-      is_utf8-from_IsUtf8 says.0 says.2,
-      says.3,
-    ) refl)
+    (rw (moment_read moment (codes "keydown" ++ 32 ∷ says.0) fits, is_utf8-from_IsUtf8 says.0 says.2, says.3) refl)
 event_line_of-fields format apps moment (Keyup key) fields fits says range =
     found_in format apps moment (Keyup key) (codes "keyup" ∷ says.0 ∷ []) fields says.1
-    (rw (
-      number_field-decimal 0 1000000000000 moment (codes "keyup" ++ 32 ∷ says.0) (lit< tt) (omega arith) fits,
-      is_utf8-from_IsUtf8 says.0 says.2,
-      says.3,
-    ) refl)
+    (rw (moment_read moment (codes "keyup" ++ 32 ∷ says.0) fits, is_utf8-from_IsUtf8 says.0 says.2, says.3) refl)
 event_line_of-fields format apps moment (Focus None) fields fits says range =
     found_in format apps moment (Focus None) (codes "focus" ∷ codes "-" ∷ []) fields says
-    (rw (number_field-decimal 0 1000000000000 moment (codes "focus" ++ 32 ∷ codes "-") (lit< tt) (omega arith) fits) refl)
+    (rw (moment_read moment (codes "focus" ++ 32 ∷ codes "-") fits) refl)
 event_line_of-fields format apps moment (Focus (Some slot)) fields fits says range =
     found_in format apps moment (Focus (Some slot)) (codes "focus" ∷ says.0 ∷ []) fields says.1
     (rw (
-      number_field-decimal 0 1000000000000 moment (codes "focus" ++ 32 ∷ says.0) (lit< tt) (omega arith) fits,
+      moment_read moment (codes "focus" ++ 32 ∷ says.0) fits,
       dash_is_no_name says.0 says.2,
       says.2,
     ) (ap (λ (s : ℕ). Some (record { moment = moment; line = Focus (Some s) })) (sym says.3)))
@@ -256,7 +244,7 @@ event_line_of-fields Second apps moment (Placed slot rect) fields fits says rang
     let corner : List ℕ = decimal rect.x ++ 32 ∷ (decimal rect.y ++ 32 ∷ (decimal rect.width ++ 32 ∷ decimal rect.height)) in
     found_in Second apps moment (Placed slot rect) (codes "rect" ∷ says.0 ∷ rect_fields rect) fields says.1
     (rw (
-      number_field-decimal 0 1000000000000 moment (codes "rect" ++ 32 ∷ (says.0 ++ 32 ∷ corner)) (lit< tt) (omega arith) fits,
+      moment_read moment (codes "rect" ++ 32 ∷ (says.0 ++ 32 ∷ corner)) fits,
       cut_at-append 32 says.0 corner (Lacks-name says.0 named),
       named,
       rect_of-spelled rect range,

@@ -7,7 +7,7 @@ use Rattle.std.specs.Char.{is_ascii_digit, is_ascii_alphabetic}
 use Rattle.std.specs.Fmt.{decimal}
 use Rattle.std.specs.Str.{bytes_eq}
 use Rattle.std.specs.Str.Parse.{digits_value}
-use Rattle.std.proofs.lemmas.Bool.{false≢true, eq-eqb, ne_eqb, eqb-true, and_parts, and_from, leb-true, le-leb, or_cases, not_from_false, cases_Bool}
+use Rattle.std.proofs.lemmas.Bool.{false≢true, eq-eqb, ne_eqb, eqb-true, and_parts, and_from, leb-true, le-leb, not_from_false, cases_Bool}
 use Rattle.std.proofs.lemmas.Fmt.{decimal_digit, first_decimal, digits_decimal, digits_value-decimal, decimal-digits_value}
 use Rattle.std.proofs.lemmas.Option.{cond_some, none-some, same_Some}
 use Rattle.std.proofs.lemmas.Slice.Eq.{bytes_eq-Decides}
@@ -19,7 +19,7 @@ use Rattle.tk_session.specs.declared.stage.Format.TheVariants.{First, Second}
 use Rattle.tk_route.specs.Names.{IsName, is_name, is_name_byte}
 use Rattle.tk_session.specs.Session.{lines_of, spelled, SpellsBudget, IsAppLine, IsScriptLine, IsEndLine}
 use Rattle.tk_session.specs.Reading.{◌>>=◌, cut_at, is_numeral, has_plain_front, number_of, number_field, rect_field, rect_of, name_of, behind, fixed_budget, budget_of, fixed_of, refilled_of, cut_budget, app_line_of, script_line_of, end_line_of}
-use Rattle.tk_session.proofs.Lines.{digits_model, list_all-digits, digits_from_numeral, numeral_nonempty}
+use Rattle.tk_session.proofs.Lines.{digits_model, list_all-digits, digits_from_numeral, letter_within, name_byte_within, numeral_nonempty}
 
 -- a chain that gives something goes on from something
 pub bind_some : {A B : Type 0} (o : Option A) (f : A → Option B) (y : B) → (o >>= f) ≡ Some y → (x : A) × ((o ≡ Some x) × (f x ≡ Some y))
@@ -63,24 +63,10 @@ digit_above_blank : (c : ℕ) → is_ascii_digit c ≡ true → c ≢ 32
 digit_above_blank c h e = omega (arith, at_least 48 57 c h)
 
 alphabetic_above_blank : (c : ℕ) → is_ascii_alphabetic c ≡ true → c ≢ 32
-alphabetic_above_blank c h e =
-    elim (or_cases _ _ h) [
-      | inl upper ↦ omega (arith, at_least 65 90 c upper)
-      | inr lower ↦ omega (arith, at_least 97 122 c lower)
-    ]
+alphabetic_above_blank c h e = omega (arith, (letter_within c h).0)
 
 name_byte_above_blank : (c : ℕ) → is_name_byte c ≡ true → c ≢ 32
-name_byte_above_blank c h e =
-    elim (or_cases _ _ h) [
-      | inl alphanumeric ↦ elim (or_cases _ _ alphanumeric) [
-        | inl front ↦ elim (or_cases _ _ front) [
-          | inl digit ↦ omega (arith, at_least 48 57 c digit)
-          | inr upper ↦ omega (arith, at_least 65 90 c upper)
-        ]
-        | inr lower ↦ omega (arith, at_least 97 122 c lower)
-      ]
-      | inr underscore ↦ omega (arith, eqb-true c 95 underscore)
-    ]
+name_byte_above_blank c h e = omega (arith, (name_byte_within c h).0)
 
 pub lacks_from_test : (byte : ℕ) (test : ℕ → Bool) → ((c : ℕ) → test c ≡ true → c ≢ byte) → (text : List ℕ) → list_all test text ≡ true → Lacks byte text
 lacks_from_test byte test away [] h = tt

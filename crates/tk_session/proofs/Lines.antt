@@ -68,32 +68,34 @@ number_of-large least most text small large =
     let above : most < digits_value 10 text = omega arith in
     rw (lt-leb (digits_value 10 text) most above, and-false (is_numeral text && leb least (digits_value 10 text))) refl
 
-below_range : (low high c : ℕ) → is_in_range low high c ≡ true → c ≤ high
-below_range low high c h = leb-true c high (and_parts _ _ h).1
+-- a byte of a range that lies between the first digit and the last letter
+within : (low high c : ℕ) → 48 ≤ low → high ≤ 122 → is_in_range low high c ≡ true → (48 ≤ c) × (c ≤ 122)
+within low high c above under h =
+    (omega (arith, above, leb-true low c (and_parts _ _ h).0), omega (arith, under, leb-true c high (and_parts _ _ h).1))
 
-ascii_alphabetic : (c : ℕ) → is_ascii_alphabetic c ≡ true → c < 128
-ascii_alphabetic c h =
+pub letter_within : (c : ℕ) → is_ascii_alphabetic c ≡ true → (48 ≤ c) × (c ≤ 122)
+letter_within c h =
     elim (or_cases _ _ h) [
-      | inl upper ↦ omega (arith, below_range 65 90 c upper)
-      | inr lower ↦ omega (arith, below_range 97 122 c lower)
+      | inl upper ↦ within 65 90 c (omega arith) (omega arith) upper
+      | inr lower ↦ within 97 122 c (omega arith) (omega arith) lower
     ]
 
-ascii_name_byte : (c : ℕ) → is_name_byte c ≡ true → c < 128
-ascii_name_byte c h =
+pub name_byte_within : (c : ℕ) → is_name_byte c ≡ true → (48 ≤ c) × (c ≤ 122)
+name_byte_within c h =
     elim (or_cases _ _ h) [
       | inl alphanumeric ↦ elim (or_cases _ _ alphanumeric) [
         | inl front ↦ elim (or_cases _ _ front) [
-          | inl digit ↦ omega (arith, below_range 48 57 c digit)
-          | inr upper ↦ omega (arith, below_range 65 90 c upper)
+          | inl digit ↦ within 48 57 c (omega arith) (omega arith) digit
+          | inr upper ↦ within 65 90 c (omega arith) (omega arith) upper
         ]
-        | inr lower ↦ omega (arith, below_range 97 122 c lower)
+        | inr lower ↦ within 97 122 c (omega arith) (omega arith) lower
       ]
-      | inr underscore ↦ omega (arith, eqb-true c 95 underscore)
+      | inr underscore ↦ (omega (arith, eqb-true c 95 underscore), omega (arith, eqb-true c 95 underscore))
     ]
 
 pub IsAscii-name_bytes : (text : List ℕ) → list_all is_name_byte text ≡ true → IsAscii text
 IsAscii-name_bytes [] h i = omega arith
-IsAscii-name_bytes (c ∷ cs) h zero = ascii_name_byte c (and_parts _ _ h).0
+IsAscii-name_bytes (c ∷ cs) h zero = omega (arith, (name_byte_within c (and_parts _ _ h).0).1)
 IsAscii-name_bytes (c ∷ cs) h (suc i) = IsAscii-name_bytes cs (and_parts _ _ h).1 i
 
 ascii_cons : (c : ℕ) (cs : List ℕ) → c < 128 → IsAscii cs → IsAscii (c ∷ cs)
@@ -104,7 +106,7 @@ pub IsAscii-name : (name : List ℕ) → is_name name ≡ true → IsAscii name
 IsAscii-name [] h = absurd (false≢true h)
 IsAscii-name (c ∷ cs) h =
     let front = and_parts _ _ (and_parts _ _ h).0 in
-    ascii_cons c cs (ascii_alphabetic c front.0) (IsAscii-name_bytes cs front.1)
+    ascii_cons c cs (omega (arith, (letter_within c front.0).1)) (IsAscii-name_bytes cs front.1)
 
 pub IsUtf8-name : (name : List ℕ) → is_name name ≡ true → IsUtf8 name
 IsUtf8-name name h = IsUtf8-from_ascii name (IsAscii-name name h)

@@ -57,16 +57,19 @@ key_name (Keydown key) = name_of key
 key_name (Keyup key) = name_of key
 key_name _ = []
 
--- the fields of an event behind its moment
+-- the fields of a line behind its moment, by how applications are called in their slots
+abbrev pub fields_with : (ℕ → List ℕ) → HostLine → List (List ℕ)
+fields_with name (Move x y) = codes "move" ∷ decimal x ∷ decimal y ∷ []
+fields_with name (Press button) = codes "press" ∷ decimal button ∷ []
+fields_with name (Release button) = codes "release" ∷ decimal button ∷ []
+fields_with name (Keydown key) = codes "keydown" ∷ name_of key ∷ []
+fields_with name (Keyup key) = codes "keyup" ∷ name_of key ∷ []
+fields_with name (Focus None) = codes "focus" ∷ codes "-" ∷ []
+fields_with name (Focus (Some slot)) = codes "focus" ∷ name slot ∷ []
+fields_with name (Placed slot rect) = codes "rect" ∷ name slot ∷ rect_fields rect
+
 abbrev pub event_fields : List AppBlock → HostLine → List (List ℕ)
-event_fields apps (Move x y) = codes "move" ∷ decimal x ∷ decimal y ∷ []
-event_fields apps (Press button) = codes "press" ∷ decimal button ∷ []
-event_fields apps (Release button) = codes "release" ∷ decimal button ∷ []
-event_fields apps (Keydown key) = codes "keydown" ∷ name_of key ∷ []
-event_fields apps (Keyup key) = codes "keyup" ∷ name_of key ∷ []
-event_fields apps (Focus None) = codes "focus" ∷ codes "-" ∷ []
-event_fields apps (Focus (Some slot)) = codes "focus" ∷ name_at apps slot ∷ []
-event_fields apps (Placed slot rect) = codes "rect" ∷ name_at apps slot ∷ rect_fields rect
+event_fields apps line = fields_with (name_at apps) line
 
 abbrev pub event_text : List AppBlock → EventLine → List ℕ
 event_text apps event = line_text (decimal event.moment) (event_fields apps event.line)

@@ -12,7 +12,7 @@ use crate::fault::SessionFault;
 use crate::reading::read_session;
 use crate::session::{AliasLine, AppBlock, EventLine, Session};
 use itoa::Buffer;
-use std::alloc::{AllocError, AllocFailed, Global};
+use std::alloc::{AllocError, Global};
 use thiserror::Error;
 use tk_alias::ServiceKind;
 use tk_base::{Budget, Rect};
@@ -33,23 +33,11 @@ pub enum WritingFault {
 }
 
 impl From<AllocError> for WritingFault {
-    ghost use Rattle.std.specs.Prelude.{◌≡◌};
-    ghost use Rattle.tk_session.specs.declared.writing.WritingFault.TheVariants.{NoMemory};
+    ghost use Rattle.tk_session.specs.declared.writing.WritingFault.{WritingFault};
 
-    ghost from_gives = { λ _ e. e ≡ NoMemory };
+    ghost from_gives = { λ _ e. e ≡ WritingFault.NoMemory };
 
     fn from(_refused: AllocError) -> WritingFault {
-        WritingFault::NoMemory
-    }
-}
-
-impl<T: Drop> From<AllocFailed<T>> for WritingFault {
-    ghost use Rattle.std.specs.Prelude.{◌≡◌};
-    ghost use Rattle.tk_session.specs.declared.writing.WritingFault.TheVariants.{NoMemory};
-
-    ghost from_gives = { λ _ e. e ≡ NoMemory };
-
-    fn from(_refused: AllocFailed<T>) -> WritingFault {
         WritingFault::NoMemory
     }
 }

@@ -25,6 +25,15 @@ use Rattle.tk_tree.proofs.Slots.{Slots, own_list, opens, set_here, set_there}
 use Rattle.tk_base.specs.Counters.{next_of, count_of, Counts}
 
 -- ── a change ──
+
+-- at a place stands what has the owner, the path and the number of another
+record Stands (slots : Slots) (k : ℕ) (other : Node) : Type 0 where
+  node : Node
+  there : at slots k ≡ Some node
+  its_owner : node.owner ≡ other.owner
+  its_path : node.window.path ≡ other.window.path
+  its_number : node.window.number ≡ other.window.number
+
 pub record Changed (index : PathIndex) (old new : Slots) (counters : List (ℕ × Counter)) (owner number : ℕ) (change : Window → Window) : Type 0 where
   pub kept : IsKept index new counters
   pub own : own_of owner (held_by new counters) ≡ with_change number change (own_of owner (held_by old counters))
@@ -103,44 +112,31 @@ module _ (index : PathIndex) (slots : Slots) (counters : List (ℕ × Counter)) 
       (kept.indexed.children_are node.owner n ∙ ap (child_numbers n) was ∙ sym (children_swap n s.front node.window (change node.window) s.back same_parent same_number) ∙ ap (child_numbers n) (sym is))
   change_children o n (inr differ) = kept.indexed.children_are o n ∙ ap (child_numbers n) (sym (change_other o differ))
 
-  -- a window at a place has an owner, a path and a number as before
-  pub record Alike (k : ℕ) (n : Node) : Type 0 where
-    pub old : Node
-    pub there_old : at slots k ≡ Some old
-    pub its_owner : old.owner ≡ n.owner
-    pub its_path : old.window.path ≡ n.window.path
-    pub its_number : old.window.number ≡ n.window.number
-
-  alike : (k : ℕ) (n : Node) → at written k ≡ Some n → (k ≡ key) ⊎ (k ≢ key) → Alike k n
+  -- what is at a place before the change has the owner, the path and the number of what is there behind it
+  alike : (k : ℕ) (n : Node) → at written k ≡ Some n → (k ≡ key) ⊎ (k ≢ key) → Stands slots k n
   alike k n is (inl here) =
       let same : other_node ≡ n = some_same other_node n (sym (set_here slots key node (Some other_node) there) ∙ sym (ap (at written) here) ∙ is) in
       record {
-        old = node;
-        there_old = ap (at slots) here ∙ there;
+        node = node;
+        there = ap (at slots) here ∙ there;
         its_owner = ap (λ m. m.owner) same;
         its_path = sym same_path ∙ ap (λ m. m.window.path) same;
         its_number = sym same_number ∙ ap (λ m. m.window.number) same;
       }
-  alike k n is (inr differ) = record { old = n; there_old = sym (set_there slots key k (Some other_node) differ) ∙ is; its_owner = refl; its_path = refl; its_number = refl }
+  alike k n is (inr differ) = record { node = n; there = sym (set_there slots key k (Some other_node) differ) ∙ is; its_owner = refl; its_path = refl; its_number = refl }
 
-  pub record Afterwards (k : ℕ) (n : Node) : Type 0 where
-    pub new : Node
-    pub there_new : at written k ≡ Some new
-    pub owner_new : new.owner ≡ n.owner
-    pub path_new : new.window.path ≡ n.window.path
-    pub number_new : new.window.number ≡ n.window.number
-
-  afterwards : (k : ℕ) (n : Node) → at slots k ≡ Some n → (k ≡ key) ⊎ (k ≢ key) → Afterwards k n
+  -- and the other way round
+  afterwards : (k : ℕ) (n : Node) → at slots k ≡ Some n → (k ≡ key) ⊎ (k ≢ key) → Stands written k n
   afterwards k n is (inl here) =
       let same : node ≡ n = some_same node n (sym there ∙ sym (ap (at slots) here) ∙ is) in
       record {
-        new = other_node;
-        there_new = ap (at written) here ∙ set_here slots key node (Some other_node) there;
-        owner_new = ap (λ m. m.owner) same;
-        path_new = same_path ∙ ap (λ m. m.window.path) same;
-        number_new = same_number ∙ ap (λ m. m.window.number) same;
+        node = other_node;
+        there = ap (at written) here ∙ set_here slots key node (Some other_node) there;
+        its_owner = ap (λ m. m.owner) same;
+        its_path = same_path ∙ ap (λ m. m.window.path) same;
+        its_number = same_number ∙ ap (λ m. m.window.number) same;
       }
-  afterwards k n is (inr differ) = record { new = n; there_new = set_there slots key k (Some other_node) differ ∙ is; owner_new = refl; path_new = refl; number_new = refl }
+  afterwards k n is (inr differ) = record { node = n; there = set_there slots key k (Some other_node) differ ∙ is; its_owner = refl; its_path = refl; its_number = refl }
 
   pub changed : Changed index slots written counters node.owner node.window.number change
   changed = record {
@@ -149,17 +145,17 @@ module _ (index : PathIndex) (slots : Slots) (counters : List (ℕ × Counter)) 
         keys_found = λ o n k is.
             let h = kept.indexed.keys_found o n k is in
             let a = afterwards k h.node h.there (cases_eq k key) in
-            record { node = a.new; there = a.there_new; its_owner = a.owner_new ∙ h.its_owner; its_number = a.number_new ∙ h.its_number };
+            record { node = a.node; there = a.there; its_owner = a.its_owner ∙ h.its_owner; its_number = a.its_number ∙ h.its_number };
         keys_all = λ k n is.
             let a = alike k n is (cases_eq k key) in
-            sym (ap (λ o. key_at index o n.window.number) a.its_owner) ∙ sym (ap (key_at index a.old.owner) a.its_number) ∙ kept.indexed.keys_all k a.old a.there_old;
+            sym (ap (λ o. key_at index o n.window.number) a.its_owner) ∙ sym (ap (key_at index a.node.owner) a.its_number) ∙ kept.indexed.keys_all k a.node a.there;
         numbers_found = λ o p n is.
             let h = kept.indexed.numbers_found o p n is in
             let a = afterwards h.key h.node h.there (cases_eq h.key key) in
-            record { key = h.key; node = a.new; there = a.there_new; its_owner = a.owner_new ∙ h.its_owner; its_path = a.path_new ∙ h.its_path; its_number = a.number_new ∙ h.its_number };
+            record { key = h.key; node = a.node; there = a.there; its_owner = a.its_owner ∙ h.its_owner; its_path = a.its_path ∙ h.its_path; its_number = a.its_number ∙ h.its_number };
         numbers_all = λ k n is.
             let a = alike k n is (cases_eq k key) in
-            sym (ap (λ o. number_at index o n.window.path) a.its_owner) ∙ sym (ap (number_at index a.old.owner) a.its_path) ∙ kept.indexed.numbers_all k a.old a.there_old ∙ ap (λ m. Some m) a.its_number;
+            sym (ap (λ o. number_at index o n.window.path) a.its_owner) ∙ sym (ap (number_at index a.node.owner) a.its_path) ∙ kept.indexed.numbers_all k a.node a.there ∙ ap (λ m. Some m) a.its_number;
         children_are = λ o n. change_children o n (cases_eq o node.owner);
       };
       sound = λ o. change_sound o (cases_eq o node.owner);

@@ -44,10 +44,9 @@ impl WindowFault {
 }
 
 impl From<AllocError> for WindowFault {
-    ghost use Rattle.std.specs.Prelude.{◌≡◌};
-    ghost use Rattle.tk_tree.specs.declared.fault.WindowFault.TheVariants.{NoMemory};
+    ghost use Rattle.tk_tree.specs.declared.fault.WindowFault.{WindowFault};
 
-    ghost from_gives = { λ _ e. e ≡ NoMemory };
+    ghost from_gives = { λ _ e. e ≡ WindowFault.NoMemory };
 
     fn from(_refused: AllocError) -> WindowFault {
         WindowFault::NoMemory

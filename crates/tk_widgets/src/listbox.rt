@@ -203,16 +203,24 @@ fn listed(alloc: Global, items: &[Item]) -> Result<Text, TextFault>
     Ok(list)
 }
 
+/// The list of items that fit one.
+fn list_of(alloc: Global, items: &[Item]) -> Result<Text, AllocError>
+    requires { length (list_form (texts items.now)) ≤ most_bytes }
+    ensures { IfOk result (λ list. list ≡ list_form (texts items.now)) }
+{
+    match listed(alloc, items) {
+        Ok(list) => Ok(list),
+        Err(TextFault::TooLong) => unreachable!(),
+        Err(TextFault::NoMemory) => Err(AllocError),
+    }
+}
+
 /// The list of no items.
 fn list_text(alloc: Global, none: &[Item]) -> Result<Text, AllocError>
     requires { none.now ≡ [] }
     ensures { IfOk result (λ list. list ≡ list_form (texts none.now)) }
 {
-    match listed(alloc, none) {
-        Ok(list) => Ok(list),
-        Err(TextFault::TooLong) => unreachable!(),
-        Err(TextFault::NoMemory) => Err(AllocError),
-    }
+    list_of(alloc, none)
 }
 
 /// The list of the items that are left of others.
@@ -229,11 +237,7 @@ fn rest_listed(
     ensures { IfOk result (λ rest. rest ≡ list_form (texts left.now)) }
 {
     let _characters = list.as_str();
-    match listed(alloc, left) {
-        Ok(rest) => Ok(rest),
-        Err(TextFault::TooLong) => unreachable!(),
-        Err(TextFault::NoMemory) => Err(AllocError),
-    }
+    list_of(alloc, left)
 }
 
 /// Adds items, and their elements to the list of all.

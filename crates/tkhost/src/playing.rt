@@ -16,7 +16,7 @@ ghost use Rattle.tkhost.specs.Play.{Serve, sections_by};
 ghost use Rattle.tkhost.specs.Sections.{sections_of};
 
 use crate::output::write_whole;
-use std::alloc::{AllocError, AllocFailed, Global};
+use std::alloc::{AllocError, Global};
 use std::io::Write;
 use thiserror::Error;
 use tk_host::{AliasService, Aliases, Host, HostFault};
@@ -34,23 +34,11 @@ pub enum PlayFault {
 }
 
 impl From<AllocError> for PlayFault {
-    ghost use Rattle.std.specs.Prelude.{◌≡◌};
-    ghost use Rattle.tkhost.specs.declared.playing.PlayFault.TheVariants.{NoMemory};
+    ghost use Rattle.tkhost.specs.declared.playing.PlayFault.{PlayFault};
 
-    ghost from_gives = { λ _ e. e ≡ NoMemory };
+    ghost from_gives = { λ _ e. e ≡ PlayFault.NoMemory };
 
     fn from(_refused: AllocError) -> PlayFault {
-        PlayFault::NoMemory
-    }
-}
-
-impl<T: Drop> From<AllocFailed<T>> for PlayFault {
-    ghost use Rattle.std.specs.Prelude.{◌≡◌};
-    ghost use Rattle.tkhost.specs.declared.playing.PlayFault.TheVariants.{NoMemory};
-
-    ghost from_gives = { λ _ e. e ≡ NoMemory };
-
-    fn from(_refused: AllocFailed<T>) -> PlayFault {
         PlayFault::NoMemory
     }
 }

@@ -1,8 +1,8 @@
-use Rattle.std.proofs.Common.{Some, None, ap}
+use Rattle.std.proofs.Common.{Some, None}
 use Rattle.std.specs.BTreeMap.{insert_entry}
 use Rattle.std.specs.List.{AllByRecursion}
 use Rattle.tk_after.specs.Keys.{due_cmp, name_cmp, due_key, name, IsTimer, IsIdle}
-use Rattle.tk_after.proofs.Bags.{stored_of, put, put_given, either_way}
+use Rattle.tk_after.proofs.Bags.{stored_of, put_given, put_idle, put_timer, either_way}
 use Rattle.tk_after.proofs.scripts.TimerScripts.insert.Goals as goal
 
 pub invariant_of-self-in-Some : goal.invariant_of-self-in-Some
@@ -18,37 +18,19 @@ invariant_of-self-in-None c =
     (c.self.invariant.0, either_way (AllByRecursion IsIdle) c.insert-in-None.result idle (insert_entry name_cmp idle (name c.args.owner c.args.entry.id) c.args.entry) c.insert-in-None.new.self.entries c.insert-in-None.ensures.entries c.insert-in-None.ensures.err c.self.invariant.1 g.keyed.1)
 
 pub returns-in_ok-insert-in-Some-clause-own : goal.returns-in_ok-insert-in-Some-clause-own
-returns-in_ok-insert-in-Some-clause-own c =
-    let idle = c.self.inside.idle.entries in
-    (put (stored_of c.self.inside.timers.entries idle) c.args.self.now c.self.view_is c.self.invariant c.args.owner c.args.entry c.requires (Some c.in-Some.due) c.in-Some.is
-    (stored_of c.insert.new.self.entries idle) (ap (λ ts. stored_of ts idle) c.in_ok-insert-in-Some.ensures.entries)).own
+returns-in_ok-insert-in-Some-clause-own c = (put_timer c.self.inside.timers.entries c.insert.new.self.entries c.self.inside.idle.entries c.args.self.now c.self.view_is c.self.invariant c.args.owner c.args.entry c.requires c.in-Some.due c.in-Some.is c.in_ok-insert-in-Some.ensures.entries).own
 
 pub returns-in_ok-insert-in-Some-clause-others : goal.returns-in_ok-insert-in-Some-clause-others
-returns-in_ok-insert-in-Some-clause-others c =
-    let idle = c.self.inside.idle.entries in
-    (put (stored_of c.self.inside.timers.entries idle) c.args.self.now c.self.view_is c.self.invariant c.args.owner c.args.entry c.requires (Some c.in-Some.due) c.in-Some.is
-    (stored_of c.insert.new.self.entries idle) (ap (λ ts. stored_of ts idle) c.in_ok-insert-in-Some.ensures.entries)).others
+returns-in_ok-insert-in-Some-clause-others c = (put_timer c.self.inside.timers.entries c.insert.new.self.entries c.self.inside.idle.entries c.args.self.now c.self.view_is c.self.invariant c.args.owner c.args.entry c.requires c.in-Some.due c.in-Some.is c.in_ok-insert-in-Some.ensures.entries).others
 
 pub returns-in_ok-insert-in-Some-clause-back : goal.returns-in_ok-insert-in-Some-clause-back
-returns-in_ok-insert-in-Some-clause-back c =
-    let idle = c.self.inside.idle.entries in
-    (put (stored_of c.self.inside.timers.entries idle) c.args.self.now c.self.view_is c.self.invariant c.args.owner c.args.entry c.requires (Some c.in-Some.due) c.in-Some.is
-    (stored_of c.insert.new.self.entries idle) (ap (λ ts. stored_of ts idle) c.in_ok-insert-in-Some.ensures.entries)).back
+returns-in_ok-insert-in-Some-clause-back c = (put_timer c.self.inside.timers.entries c.insert.new.self.entries c.self.inside.idle.entries c.args.self.now c.self.view_is c.self.invariant c.args.owner c.args.entry c.requires c.in-Some.due c.in-Some.is c.in_ok-insert-in-Some.ensures.entries).back
 
 pub returns-in_ok-insert-in-None-clause-own : goal.returns-in_ok-insert-in-None-clause-own
-returns-in_ok-insert-in-None-clause-own c =
-    let timers = c.self.inside.timers.entries in
-    (put (stored_of timers c.self.inside.idle.entries) c.args.self.now c.self.view_is c.self.invariant c.args.owner c.args.entry c.requires None c.in-None.is
-    (stored_of timers c.insert-in-None.new.self.entries) (ap (λ ts. stored_of timers ts) c.in_ok-insert-in-None.ensures.entries)).own
+returns-in_ok-insert-in-None-clause-own c = (put_idle c.self.inside.timers.entries c.self.inside.idle.entries c.insert-in-None.new.self.entries c.args.self.now c.self.view_is c.self.invariant c.args.owner c.args.entry c.requires c.in-None.is c.in_ok-insert-in-None.ensures.entries).own
 
 pub returns-in_ok-insert-in-None-clause-others : goal.returns-in_ok-insert-in-None-clause-others
-returns-in_ok-insert-in-None-clause-others c =
-    let timers = c.self.inside.timers.entries in
-    (put (stored_of timers c.self.inside.idle.entries) c.args.self.now c.self.view_is c.self.invariant c.args.owner c.args.entry c.requires None c.in-None.is
-    (stored_of timers c.insert-in-None.new.self.entries) (ap (λ ts. stored_of timers ts) c.in_ok-insert-in-None.ensures.entries)).others
+returns-in_ok-insert-in-None-clause-others c = (put_idle c.self.inside.timers.entries c.self.inside.idle.entries c.insert-in-None.new.self.entries c.args.self.now c.self.view_is c.self.invariant c.args.owner c.args.entry c.requires c.in-None.is c.in_ok-insert-in-None.ensures.entries).others
 
 pub returns-in_ok-insert-in-None-clause-back : goal.returns-in_ok-insert-in-None-clause-back
-returns-in_ok-insert-in-None-clause-back c =
-    let timers = c.self.inside.timers.entries in
-    (put (stored_of timers c.self.inside.idle.entries) c.args.self.now c.self.view_is c.self.invariant c.args.owner c.args.entry c.requires None c.in-None.is
-    (stored_of timers c.insert-in-None.new.self.entries) (ap (λ ts. stored_of timers ts) c.in_ok-insert-in-None.ensures.entries)).back
+returns-in_ok-insert-in-None-clause-back c = (put_idle c.self.inside.timers.entries c.self.inside.idle.entries c.insert-in-None.new.self.entries c.args.self.now c.self.view_is c.self.invariant c.args.owner c.args.entry c.requires c.in-None.is c.in_ok-insert-in-None.ensures.entries).back

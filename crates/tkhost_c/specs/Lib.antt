@@ -1,5 +1,6 @@
 -- What the contracts cite.
 pub mod Calls
+pub mod Doing
 pub mod Keeping
 pub mod Keeps
 pub mod Numbers

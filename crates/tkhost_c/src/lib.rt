@@ -3,6 +3,7 @@
 
 mod adding;
 mod adds;
+mod doing;
 mod handles;
 mod kept;
 mod keys;

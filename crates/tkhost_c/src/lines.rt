@@ -3,9 +3,8 @@ ghost use Rattle.std.specs.Prelude.{Some, None};
 ghost use Rattle.tk_route.specs.declared.line.HostLine.TheVariants.{Focus, Keydown, Keyup, Move, Press, Rect as Placed, Release};
 ghost use Rattle.tkhost_c.specs.Calls.{On, TakesKey, TakesLine, TakesText, key_named_by};
 
+use crate::doing::{Deed, done};
 use crate::place::Place;
-use crate::refusal::{Refusal, number_for};
-use crate::taking::{put, take};
 use std::alloc::Global;
 use tk_host::{HostLine, Rect};
 
@@ -14,14 +13,7 @@ use tk_host::{HostLine, Rect};
 pub extern "C" fn tkhost_move(alloc: Global, host: &mut Place, moment: u64, x: u32, y: u32) -> u32
     ensures { On host.old.kept host.new.kept result (TakesLine moment (Move x y)) }
 {
-    match take(host, alloc) {
-        Some(mut kept) => {
-            let answer = kept.line(moment, HostLine::Move { x, y });
-            put(host, kept);
-            number_for(answer)
-        }
-        None => number_for(Err(Refusal::NoHost)),
-    }
+    done(alloc, host, &Deed::Line(moment, HostLine::Move { x, y }))
 }
 
 /// A button of the pointer is pressed, 1 to 5.
@@ -29,14 +21,7 @@ pub extern "C" fn tkhost_move(alloc: Global, host: &mut Place, moment: u64, x: u
 pub extern "C" fn tkhost_press(alloc: Global, host: &mut Place, moment: u64, button: u32) -> u32
     ensures { On host.old.kept host.new.kept result (TakesLine moment (Press button)) }
 {
-    match take(host, alloc) {
-        Some(mut kept) => {
-            let answer = kept.line(moment, HostLine::Press(button));
-            put(host, kept);
-            number_for(answer)
-        }
-        None => number_for(Err(Refusal::NoHost)),
-    }
+    done(alloc, host, &Deed::Line(moment, HostLine::Press(button)))
 }
 
 /// A button of the pointer is released, 1 to 5.
@@ -44,14 +29,7 @@ pub extern "C" fn tkhost_press(alloc: Global, host: &mut Place, moment: u64, but
 pub extern "C" fn tkhost_release(alloc: Global, host: &mut Place, moment: u64, button: u32) -> u32
     ensures { On host.old.kept host.new.kept result (TakesLine moment (Release button)) }
 {
-    match take(host, alloc) {
-        Some(mut kept) => {
-            let answer = kept.line(moment, HostLine::Release(button));
-            put(host, kept);
-            number_for(answer)
-        }
-        None => number_for(Err(Refusal::NoHost)),
-    }
+    done(alloc, host, &Deed::Line(moment, HostLine::Release(button)))
 }
 
 /// A key goes down, by its name.
@@ -59,14 +37,7 @@ pub extern "C" fn tkhost_release(alloc: Global, host: &mut Place, moment: u64, b
 pub extern "C" fn tkhost_keydown(alloc: Global, host: &mut Place, moment: u64, name: &[u8]) -> u32
     ensures { On host.old.kept host.new.kept result (TakesKey Keydown moment (key_named_by name.now)) }
 {
-    match take(host, alloc) {
-        Some(mut kept) => {
-            let answer = kept.keydown(moment, name);
-            put(host, kept);
-            number_for(answer)
-        }
-        None => number_for(Err(Refusal::NoHost)),
-    }
+    done(alloc, host, &Deed::Keydown(moment, name))
 }
 
 /// A key goes up, by its name.
@@ -74,14 +45,7 @@ pub extern "C" fn tkhost_keydown(alloc: Global, host: &mut Place, moment: u64, n
 pub extern "C" fn tkhost_keyup(alloc: Global, host: &mut Place, moment: u64, name: &[u8]) -> u32
     ensures { On host.old.kept host.new.kept result (TakesKey Keyup moment (key_named_by name.now)) }
 {
-    match take(host, alloc) {
-        Some(mut kept) => {
-            let answer = kept.keyup(moment, name);
-            put(host, kept);
-            number_for(answer)
-        }
-        None => number_for(Err(Refusal::NoHost)),
-    }
+    done(alloc, host, &Deed::Keyup(moment, name))
 }
 
 /// The application in a slot has the keys.
@@ -89,14 +53,11 @@ pub extern "C" fn tkhost_keyup(alloc: Global, host: &mut Place, moment: u64, nam
 pub extern "C" fn tkhost_focus(alloc: Global, host: &mut Place, moment: u64, slot: usize) -> u32
     ensures { On host.old.kept host.new.kept result (TakesLine moment (Focus (Some slot))) }
 {
-    match take(host, alloc) {
-        Some(mut kept) => {
-            let answer = kept.line(moment, HostLine::Focus(Some(slot)));
-            put(host, kept);
-            number_for(answer)
-        }
-        None => number_for(Err(Refusal::NoHost)),
-    }
+    done(
+        alloc,
+        host,
+        &Deed::Line(moment, HostLine::Focus(Some(slot))),
+    )
 }
 
 /// No application has the keys.
@@ -104,14 +65,7 @@ pub extern "C" fn tkhost_focus(alloc: Global, host: &mut Place, moment: u64, slo
 pub extern "C" fn tkhost_unfocus(alloc: Global, host: &mut Place, moment: u64) -> u32
     ensures { On host.old.kept host.new.kept result (TakesLine moment (Focus None)) }
 {
-    match take(host, alloc) {
-        Some(mut kept) => {
-            let answer = kept.line(moment, HostLine::Focus(None));
-            put(host, kept);
-            number_for(answer)
-        }
-        None => number_for(Err(Refusal::NoHost)),
-    }
+    done(alloc, host, &Deed::Line(moment, HostLine::Focus(None)))
 }
 
 /// The application in a slot has another rectangle.
@@ -128,25 +82,22 @@ pub extern "C" fn tkhost_rect(
 ) -> u32
     ensures { On host.old.kept host.new.kept result (TakesLine moment (Placed slot (record { x = x; y = y; width = width; height = height }))) }
 {
-    match take(host, alloc) {
-        Some(mut kept) => {
-            let answer = kept.line(
-                moment,
-                HostLine::Rect {
-                    slot,
-                    rect: Rect {
-                        x,
-                        y,
-                        width,
-                        height,
-                    },
+    done(
+        alloc,
+        host,
+        &Deed::Line(
+            moment,
+            HostLine::Rect {
+                slot,
+                rect: Rect {
+                    x,
+                    y,
+                    width,
+                    height,
                 },
-            );
-            put(host, kept);
-            number_for(answer)
-        }
-        None => number_for(Err(Refusal::NoHost)),
-    }
+            },
+        ),
+    )
 }
 
 /// A line of a session, behind `events`, without its LF: an event or the end.
@@ -154,12 +105,5 @@ pub extern "C" fn tkhost_rect(
 pub extern "C" fn tkhost_line(alloc: Global, host: &mut Place, line: &[u8]) -> u32
     ensures { On host.old.kept host.new.kept result (TakesText line.now) }
 {
-    match take(host, alloc) {
-        Some(mut kept) => {
-            let answer = kept.text_line(line);
-            put(host, kept);
-            number_for(answer)
-        }
-        None => number_for(Err(Refusal::NoHost)),
-    }
+    done(alloc, host, &Deed::Text(line))
 }

@@ -49,10 +49,9 @@ impl From<LineFault> for Refusal {
 }
 
 impl From<AllocError> for Refusal {
-    ghost use Rattle.std.specs.Prelude.{◌≡◌};
-    ghost use Rattle.tkhost_c.specs.declared.refusal.Refusal.TheVariants.{NoMemory};
+    ghost use Rattle.tkhost_c.specs.declared.refusal.Refusal.{Refusal};
 
-    ghost from_gives = { λ _ e. e ≡ NoMemory };
+    ghost from_gives = { λ _ e. e ≡ Refusal.NoMemory };
 
     fn from(_refused: AllocError) -> Refusal {
         Refusal::NoMemory
@@ -60,10 +59,9 @@ impl From<AllocError> for Refusal {
 }
 
 impl<T: Drop> From<AllocFailed<T>> for Refusal {
-    ghost use Rattle.std.specs.Prelude.{◌≡◌};
-    ghost use Rattle.tkhost_c.specs.declared.refusal.Refusal.TheVariants.{NoMemory};
+    ghost use Rattle.tkhost_c.specs.declared.refusal.Refusal.{Refusal};
 
-    ghost from_gives = { λ _ e. e ≡ NoMemory };
+    ghost from_gives = { λ _ e. e ≡ Refusal.NoMemory };
 
     fn from(_refused: AllocFailed<T>) -> Refusal {
         Refusal::NoMemory

@@ -1,7 +1,0 @@
-use Rattle.tkhost_c.specs.Calls.{TakesLine}
-use Rattle.tk_route.specs.declared.line.HostLine.TheVariants.{Release}
-use Rattle.tkhost_c.proofs.HandleLemmas.{on_kept}
-use Rattle.tkhost_c.proofs.lines.tkhost_release.Goals as goal
-
-pub returns-in-Some : goal.returns-in-Some
-returns-in-Some c = on_kept (TakesLine c.args.moment (Release c.args.button)) c.in-Some.ensures.kept c.put.ensures c.number_for.ensures c.deref_mut.ensures.value c.line-answer.ensures

@@ -3,7 +3,7 @@ use Rattle.std.proofs.Common.{◌≡◌, ℕ, ◌+◌, ◌<◌, true, false, Lis
 use Rattle.std.proofs.lemmas.List.{drop_more, take_more}
 use Rattle.std.proofs.lemmas.Bool.Decides.{nat_tests}
 use Rattle.tcl_text.specs.ListForm.{StopsAtSpecial, others_form}
-use Rattle.tcl_text.specs.Readings.{element_form, is_special, list_form, with_backslashes}
+use Rattle.tcl_text.specs.Readings.{can_be_bare, element_form, is_special, list_form, with_backslashes}
 
 -- a plain byte more
 pub plain_more : (item : List ℕ) (at : ℕ) → at < length item → is_special (get_or item at 0) ≡ false → with_backslashes item ≡ take at item ++ with_backslashes (drop at item) → with_backslashes item ≡ take (at + 1) item ++ with_backslashes (drop (at + 1) item)
@@ -42,3 +42,12 @@ unfolding list_form
 list_form-one x = refl
 
 pub ruleset list_form_one = (list_form-one)
+
+-- an item that can be bare, as it is
+pub bare_form : (item : List ℕ) → 0 < length item → can_be_bare item ≡ true → element_form item ≡ item
+bare_form [] some bare = absurd (omega (arith, some))
+bare_form (c ∷ cs) some bare = rw bare refl
+
+-- and behind a blank
+pub bare_behind : (item form : List ℕ) → element_form item ≡ item → form ≡ (32 ∷ []) ++ item → form ≡ others_form (item ∷ [])
+bare_behind item form bare is = is ∙ ap (λ (t : List ℕ). 32 ∷ t) (sym (append-nil item) ∙ ap (λ (t : List ℕ). t ++ []) (sym bare))

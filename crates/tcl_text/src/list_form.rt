@@ -101,6 +101,15 @@ fn can_be_bare(item: &[u8]) -> bool
     !begins_comment(item) && is_plain(item)
 }
 
+/// Whether an item is written as it is.
+#[tactic(auto, using(crate::proofs::ListFormLemmas::bare_form))]
+pub fn stands_bare(item: &str) -> bool
+    ensures { result ≡ true → readings.element_form item.now ≡ item.now }
+{
+    let bytes = item.as_bytes();
+    !bytes.is_empty() && can_be_bare(bytes)
+}
+
 /// Whether the item can stand in braces.
 fn can_be_braced(item: &[u8]) -> bool
     ensures { result ≡ readings.can_be_braced item.now }

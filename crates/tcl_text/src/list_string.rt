@@ -9,7 +9,8 @@ ghost use Rattle.tcl_text.specs.Bytes.{space};
 ghost use Rattle.tcl_text.specs.Limits.{most_bytes, most_string};
 
 use crate::fault::TextFault;
-use crate::list_form::push_element;
+use crate::list_form::{push_element, stands_bare};
+use crate::short::{SHORT_BYTES, ShortText};
 use crate::sought::is_same;
 use crate::splitting::first_element;
 use crate::text::{MAX_BYTES, Text};
@@ -95,6 +96,20 @@ fn push_kept(string: &mut String, ends: &mut Vec<u32>, more: &ListString) -> Res
     let behind = string.as_str().len();
     push_ends(ends, more.ends.as_slice(), 0, behind as u32)?;
     string.push_str(more.string.as_str())?;
+    Ok(())
+}
+
+/// Adds the form of an item, with a blank in front, and where it ends. On an error the string is as it was, and the ends that were there stay in front.
+fn push_one(string: &mut String, ends: &mut Vec<u32>, form: &str) -> Result<(), AllocError>
+    requires { length (string_bytes string.old) + length form.now ≤ most_string }
+    ensures forms { OnOk result (string_bytes string.new ≡ string_bytes string.old ++ form.now) }
+    ensures places { OnOk result (ends.new.items ≡ ends.old.items ++ (length (string_bytes string.old) + length form.now) ∷ []) }
+    ensures same { OnErr result (string_bytes string.new ≡ string_bytes string.old) }
+    ensures front { OnErr result (take (length ends.old.items) ends.new.items ≡ ends.old.items) }
+{
+    let end = string.as_str().len() + form.len();
+    ends.push(end as u32)?;
+    string.push_str(form)?;
     Ok(())
 }
 
@@ -279,6 +294,49 @@ impl ListString {
         }
     }
 
+    /// Adds an item, where it is written as it is, in few bytes, and there is room for it; false, and nothing is done, for another one.
+    fn push_bare(&mut self, item: &str) -> Result<bool, AllocError>
+        ensures ok { IfOk result (λ done. MatchBool done (self.new ≡ self.old ++ item.now ∷ []) (self.new ≡ self.old)) }
+        ensures err { OnErr result (self.new ≡ self.old) }
+    {
+        if item.len() >= SHORT_BYTES {
+            return Ok(false);
+        }
+        let bare = stands_bare(item);
+        if !bare {
+            return Ok(false);
+        }
+        let short = ShortText::joined(" ", item);
+        let form = short.as_str();
+        if form.len() > MAX_STRING - self.width() {
+            return Ok(false);
+        }
+        let ascii = form.is_ascii();
+        let count = self.ends.len();
+        match push_one(&mut self.string, &mut self.ends, form) {
+            Ok(()) => {
+                self.ascii &= ascii;
+                Ok(true)
+            }
+            Err(refused) => {
+                self.ends.truncate(count);
+                Err(refused)
+            }
+        }
+    }
+
+    /// Adds an item to a list that has no other owner, where it is written as it is, in few bytes, and there is room for it; false, and nothing is
+    /// done, otherwise.
+    fn push_alone(list: &mut Rc<ListString>, item: &str) -> Result<bool, AllocError>
+        ensures ok { IfOk result (λ done. MatchBool done (list.new.value ≡ list.old.value ++ item.now ∷ []) (list.new.value ≡ list.old.value)) }
+        ensures err { OnErr result (list.new.value ≡ list.old.value) }
+    {
+        match Rc::get_mut(list) {
+            Some(alone) => alone.push_bare(item),
+            None => Ok(false),
+        }
+    }
+
     /// The list with the items of another behind it.
     fn longer(&self, alloc: Global, more: &ListString) -> Result<ListString, AllocError>
         requires { length (others_form self.now) + length (others_form more.now) ≤ most_string }
@@ -295,6 +353,20 @@ impl ListString {
         alloc: Global,
         items: &[Text],
     ) -> Result<(), TextFault>
+        ensures ok { OnOk result (list.new.value ≡ list.old.value ++ items.now) }
+        ensures too_long { IfErr result (λ fault. fault ≢ TextFault.NoMemory → most_bytes < length (list_form (list.old.value ++ items.now))) }
+        ensures err { OnErr result (list.new.value ≡ list.old.value) }
+    {
+        if let [item] = items
+            && ListString::push_alone(list, item.as_str())?
+        {
+            return Ok(());
+        }
+        ListString::push_all(list, alloc, items)
+    }
+
+    /// Adds items to a list by a list of them; in place, where it has no other owner. `TooLong`, and nothing is added, where its form would pass 65,536 bytes.
+    fn push_all(list: &mut Rc<ListString>, alloc: Global, items: &[Text]) -> Result<(), TextFault>
         ensures ok { OnOk result (list.new.value ≡ list.old.value ++ items.now) }
         ensures too_long { IfErr result (λ fault. fault ≢ TextFault.NoMemory → most_bytes < length (list_form (list.old.value ++ items.now))) }
         ensures err { OnErr result (list.new.value ≡ list.old.value) }

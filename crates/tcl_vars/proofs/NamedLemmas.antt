@@ -1,14 +1,15 @@
 -- A map under text keys does what the list of its named entries says.
-use Rattle.std.proofs.Common.{◌≡◌, ℕ, zero, suc, ◌<◌, Bool, true, false, cond, List, [], ◌∷◌, filter, length, get_or, Option, None, Some, is_some, slice_get, position, String, string_bytes, string_eq, bytes_eq, refl, sym, ap, subst, ◌∙◌, arith}
+use Rattle.std.proofs.Common.{◌≡◌, ℕ, zero, suc, ◌<◌, Bool, true, false, cond, List, [], ◌∷◌, filter, length, get_or, Option, None, Some, is_some, slice_get, option_map, position, String, string_bytes, string_eq, bytes_eq, refl, sym, ap, subst, ◌∙◌, arith}
 use Rattle.std.proofs.lemmas.List.Quantifiers.{position-Some}
 use Rattle.std.specs.List.{IsDistinct}
 use Rattle.std.specs.Map.{keys_of, values_of, lookup, remove_entry}
 use Rattle.std_alloc.specs.String.{string_eq_equiv}
-use Rattle.std_collections.proofs.HashLookup.{IsFirst, lookup-IsFirst}
+use Rattle.std_collections.proofs.HashLookup.{IsFirst, get_value, lookup-IsFirst}
 use Rattle.indexmap.proofs.MapLemmas.{index-first}
 use Rattle.indexmap.proofs.RemoveLemmas.{own_first}
 use Rattle.indexmap.specs.IndexMap.{insert_entry, set_value_at}
 use Rattle.tcl_vars.specs.Named.{named_entries}
+use Rattle.tcl_vars.specs.Table.{value_at}
 
 -- the test by which a map finds the key with these bytes
 abbrev pub is_key : {Z : Type 0} → List ℕ → String Z → Bool
@@ -89,3 +90,12 @@ pub stands_first : {Z V : Type 0} (name : List ℕ) (es : List (String Z × V)) 
 stands_first name es place held value unique at same =
     let first : IsFirst (is_key name) es place = subst (λ n. IsFirst (is_key n) es place) same (own_first string_eq string_eq_equiv es place held value unique at) in
     (index-first (is_key name) es place first, sym (lookup-IsFirst (is_key name) es place first))
+
+-- and so is the value at the place
+pub value_there : {Z V : Type 0} (es : List (String Z × V)) (place : ℕ) (held : String Z) (value : V) → slice_get es place ≡ Some (held, value) → slice_get (values_of es) place ≡ Some value
+value_there es place held value at = get_value es place ∙ ap (option_map (λ e. e.1)) at
+
+pub held_there : {Z V : Type 0} (name : List ℕ) (es : List (String Z × V)) (place : ℕ) (held : String Z) (value : V) → IsDistinct string_eq (keys_of es) → slice_get es place ≡ Some (held, value) → string_bytes held ≡ name
+    → value_at (named_entries es) name ≡ Some value
+held_there name es place held value unique at same =
+    lookup-named_entries name es ∙ sym (stands_first name es place held value unique at same).1 ∙ value_there es place held value at

@@ -1,4 +1,4 @@
-ghost use Rattle.std.specs.Prelude.{◌≡◌, ◌≢◌, ◌+◌, ◌<◌, ◌≤◌, None, Ok, IfOk, IfErr, IfSome, MatchBool, MatchOption, OnErr};
+ghost use Rattle.std.specs.Prelude.{◌≡◌, ◌≢◌, ◌+◌, ◌<◌, ◌≤◌, [], None, Ok, IfOk, IfErr, IfSome, MatchBool, MatchOption, OnErr};
 ghost use Rattle.std.specs.Option.{option_copied};
 ghost use Rattle.tcl_vars.specs.Add.{AddsText};
 ghost use Rattle.tcl_vars.specs.Changing.{ChangesText, KeepsText};
@@ -18,6 +18,30 @@ use tcl_text::{ChangeFault, Edit, ReadFault, SetFault, Text, UnsetFault};
 
 /// The names of one frame, in the order in which they came.
 pub(crate) type Frame = Table<Content>;
+
+/// How many names a frame that has ended may have memory for where that is kept: enough for most procedures.
+const MOST_KEPT: usize = 64;
+
+/// A frame without variables: in the memory of one that has ended, if one is kept.
+pub(crate) fn empty_frame(alloc: Global, spare: &mut Vec<Frame>) -> Frame
+    ensures { result ≡ [] }
+{
+    match spare.pop() {
+        Some(mut frame) => {
+            frame.clear();
+            frame
+        }
+        None => Table::new(alloc),
+    }
+}
+
+/// Keeps the memory of a frame that has ended for another one, where it isn't large and there is room in the list. It takes none.
+pub(crate) fn keep_memory(spare: &mut Vec<Frame>, mut frame: Frame) {
+    if spare.len() < spare.capacity() && frame.capacity() <= MOST_KEPT {
+        frame.clear();
+        let _kept = spare.push(frame);
+    }
+}
 
 /// How many variables a frame has.
 pub(crate) fn variable_count(frame: &Frame) -> usize

@@ -18,7 +18,9 @@ use crate::arrays::{names_of, pairs_of};
 use crate::content::{
     Content, Outcome, array_state, elements_of, holds_value, integer_in, is_there, link_of, text_of,
 };
-use crate::frame::{Frame, add, change, give, leave_out, put, unset, variable_count};
+use crate::frame::{
+    Frame, add, change, empty_frame, give, keep_memory, leave_out, put, unset, variable_count,
+};
 use crate::name::{
     OwnPlace, Place, element_place, has_no_marks, is_given, is_plain, place_of, place_of_text,
     variable_place,
@@ -37,6 +39,8 @@ pub const MAX_VARIABLES: usize = 4096;
 pub struct Scopes {
     frames: Vec<Frame>,
     count: usize,
+    /// Frames of procedures that have ended, empty: the next ones take their memory.
+    spare: Vec<Frame>,
     alloc: Global,
 }
 
@@ -70,6 +74,7 @@ impl Scopes {
         Ok(Scopes {
             frames,
             count: 0,
+            spare: Vec::new(alloc),
             alloc,
         })
     }
@@ -87,7 +92,10 @@ impl Scopes {
         ensures ok { OnOk result (self.new ≡ self.old ++ [] ∷ []) }
         ensures err { OnErr result (self.new ≡ self.old) }
     {
-        self.frames.push(Table::new(self.alloc))?;
+        let all = self.frames.len();
+        self.spare.reserve(all)?;
+        let frame = empty_frame(self.alloc, &mut self.spare);
+        self.frames.push(frame)?;
         Ok(())
     }
 
@@ -98,6 +106,7 @@ impl Scopes {
     {
         let frame = self.frames.pop().unwrap();
         self.count -= variable_count(&frame);
+        keep_memory(&mut self.spare, frame);
     }
 
     /// The text of the variable or element that a name means in a frame (Tcl(n), set(n)). `NoVariable` (15), `NoElement`
@@ -673,6 +682,7 @@ impl Drop for Scopes {
         let Scopes {
             frames: _,
             count: _,
+            spare: _,
             alloc: _,
         } = self;
     }

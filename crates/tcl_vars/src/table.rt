@@ -74,6 +74,11 @@ impl<V> Table<V> {
         self.entries.len()
     }
 
+    /// How many names there is memory for.
+    pub(crate) fn capacity(&self) -> usize {
+        self.entries.capacity()
+    }
+
     /// The name and the value at a place of the order.
     pub(crate) fn at(&self, index: usize) -> (&str, &V)
         requires { index < length self.now }
@@ -146,6 +151,13 @@ impl<V> Table<V> {
 }
 
 impl<V: Drop> Table<V> {
+    /// Takes all names out, and keeps the memory.
+    pub(crate) fn clear(&mut self)
+        ensures { self.new ≡ [] }
+    {
+        self.entries.clear();
+    }
+
     /// Gives a name a value. A new name comes last; the other names keep their places and values.
     pub(crate) fn insert(&mut self, name: &str, value: V) -> Result<(), AllocError>
         requires { IsShort name.now }

@@ -2,7 +2,7 @@ use Rattle.std.proofs.Common.{◌≡◌, Err, List, ℕ, ap, arith, length, rule
 use Rattle.tcl_text.specs.ListForm.{others_form}
 use Rattle.tcl_text.proofs.KeptSteps.{added_long, behind_long}
 use Rattle.tcl_text.proofs.FaultLemmas.{fault_told}
-use Rattle.tcl_text.proofs.list_string.ListString.push_items.Goals as goal
+use Rattle.tcl_text.proofs.list_string.ListString.push_all.Goals as goal
 
 pub returns-in_err-more-clause-too_long : goal.returns-in_err-more-clause-too_long
 returns-in_err-more-clause-too_long c =

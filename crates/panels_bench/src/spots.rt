@@ -217,7 +217,7 @@ fn command_with(
         return Ok(None);
     };
     for command in read.commands() {
-        let (start, end) = (command.span.start(), command.span.end());
+        let (start, end) = (command.span().start(), command.span().end());
         if start >= from && part(script, start, end).contains(wanted) {
             return Ok(Some((start, end)));
         }

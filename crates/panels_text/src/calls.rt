@@ -109,17 +109,17 @@ fn only_literal(alloc: Global, pieces: &[Piece]) -> Result<Option<String>, Alloc
 fn literal(alloc: Global, word: &Word) -> Result<Option<String>, AllocError>
     ensures { IfOk result (λ text. option_map string_bytes text ≡ literal word.now) }
 {
-    if word.expand {
+    if word.expand() {
         return Ok(None);
     }
-    only_literal(alloc, word.pieces.as_slice())
+    only_literal(alloc, word.pieces())
 }
 
 /// A word of a text, as it is written.
 fn source_of<'a>(text: &'a [u8], word: &Word) -> &'a [u8]
     ensures { result.now ≡ source_of text.now word.now }
 {
-    between(text, word.span.start(), word.span.end())
+    between(text, word.span().start(), word.span().end())
 }
 
 /// A text without its first byte and its last.
@@ -171,14 +171,14 @@ fn written(alloc: Global, body: &Body, word: &Word) -> Result<Vec<u8>, AllocErro
 {
     let source = source_of(body.text.as_slice(), word);
     let text = literal(alloc, word)?;
-    written_as(alloc, word.form, text, source)
+    written_as(alloc, word.form(), text, source)
 }
 
 /// A word that is a script or has one.
 fn body_of(alloc: Global, outer: &Body, word: &Word, form: Form) -> Result<Body, AllocError>
     ensures { IfOk result (λ body. passage_of body ≡ body_of form (passage_of outer.now) word.now) }
 {
-    let line = line_of(outer.text.as_slice(), word.span.start(), outer.line);
+    let line = line_of(outer.text.as_slice(), word.span().start(), outer.line);
     let written = written(alloc, outer, word)?;
     let text = Vec::from_slice(alloc, without_plus(written.as_slice()))?;
     Ok(Body { text, line, form })
@@ -205,7 +205,7 @@ fn push_brackets(
 ) -> Result<(), AllocError>
     ensures { OnOk result (map passage_of bodies.new.items ≡ map passage_of bodies.old.items ++ brackets_in (line_of outer.now.line outer.now.text.items word.now.span.start) (source_of outer.now.text.items word.now)) }
 {
-    let line = line_of(outer.text.as_slice(), word.span.start(), outer.line);
+    let line = line_of(outer.text.as_slice(), word.span().start(), outer.line);
     let source = source_of(outer.text.as_slice(), word);
     brackets_of(alloc, source, line, bodies)
 }
@@ -289,7 +289,7 @@ fn push_inners(
 fn is_open(words: &[Word]) -> bool
     ensures { result ≡ is_open words.now }
 {
-    words.iter().any(|word| word.expand)
+    words.iter().any(|word| word.expand())
 }
 
 /// Adds a command, and the bodies of its words.
@@ -303,10 +303,10 @@ fn push_call(
     ensures calls { OnOk result (map said calls.new.items ≡ map said calls.old.items ++ said_by (passage_of outer.now) command.now ∷ []) }
     ensures bodies { OnOk result (map passage_of bodies.new.items ≡ map passage_of bodies.old.items ++ inner_of_command (passage_of outer.now) command.now) }
 {
-    let own = command.words.as_slice();
+    let own = command.words();
     let words = texts_of(alloc, own)?;
     push_inners(alloc, outer, own, words.as_slice(), bodies)?;
-    let line = line_of(outer.text.as_slice(), command.span.start(), outer.line);
+    let line = line_of(outer.text.as_slice(), command.span().start(), outer.line);
     let is_open = is_open(own);
     Ok(calls.push(Call {
         line,
@@ -366,7 +366,7 @@ fn push_all_cases(
     ensures { OnOk result (map passage_of bodies.new.items ≡ map passage_of bodies.old.items ++ flat_map (λ command. inner_of_cases 0 (passage_of outer.now) command.words) commands.now) }
 {
     for command in commands {
-        push_cases(alloc, outer, command.words.as_slice(), bodies)?;
+        push_cases(alloc, outer, command.words(), bodies)?;
     }
     Ok(())
 }

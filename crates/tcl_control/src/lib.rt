@@ -14,6 +14,7 @@ mod procedure;
 mod usages;
 mod variables;
 
+pub use choices::switch_plan;
 pub use code::{Code, ReturnCode, STRAY_BREAK, STRAY_CONTINUE};
 pub use context::Context;
 pub use control::{Call, End, call_command, caught, info_plan, leaving_plan};

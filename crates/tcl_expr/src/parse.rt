@@ -9,8 +9,8 @@ use crate::expr::Expr;
 use crate::fault::ExprFault;
 use crate::reader::read_all;
 use std::alloc::Global;
-use tcl_text::{MAX_BYTES, Text};
-use tcl_words::ParseFault;
+use tcl_text::MAX_BYTES;
+use tcl_words::{ParseFault, SourceText};
 
 /// Reads the steps of an expression.
 fn read_expr(alloc: Global, source: &[u8]) -> Result<Expr, ExprFault>
@@ -24,8 +24,9 @@ fn read_expr(alloc: Global, source: &[u8]) -> Result<Expr, ExprFault>
     let Ok(characters) = str::from_utf8(source) else {
         return Err(ExprFault::Script(ParseFault::TooLong));
     };
-    let steps = read_all(alloc, characters)?;
-    let text = Text::of_short(alloc, characters)?;
+    let whole = SourceText::new(alloc, characters)?;
+    let steps = read_all(&whole, characters)?;
+    let text = whole.to_text()?;
     Ok(Expr::new(alloc, text, steps)?)
 }
 

@@ -25,7 +25,9 @@ use crate::tokens::{
 };
 use std::alloc::{AllocError, Global};
 use tcl_text::Text;
-use tcl_words::{MAX_DEPTH, ParseFault, bracket_behind, quotes_behind, substitution_behind};
+use tcl_words::{
+    MAX_DEPTH, ParseFault, SourceText, bracket_behind, quotes_behind, substitution_behind,
+};
 
 /// The text of some bytes, which are characters.
 fn text_of(alloc: Global, bytes: &[u8]) -> Result<Text, AllocError>
@@ -128,7 +130,7 @@ fn room_in(parser: &Parser) -> usize
 
 /// A variable or an element, behind its `$`.
 fn take_dollar(
-    alloc: Global,
+    whole: &SourceText,
     parser: &mut Parser,
     source: &str,
     at: usize,
@@ -139,17 +141,17 @@ fn take_dollar(
     ensures { standing.Takes parser.old result parser.new (λ before. reading.at_dollar before (drop (at + 1) source.now)) }
 {
     let room = room_in(parser);
-    let Some((piece, taken)) = substitution_behind(alloc, source, at, room)? else {
+    let Some((piece, taken)) = substitution_behind(whole, source, at, room)? else {
         return Err(ExprFault::Syntax);
     };
-    push_piece(alloc, &mut parser.steps, &piece, room)?;
+    push_piece(whole.alloc(), &mut parser.steps, &piece, room)?;
     parser.is_due = false;
     Ok(taken)
 }
 
 /// A script in brackets, behind the opening one.
 fn take_bracket(
-    alloc: Global,
+    whole: &SourceText,
     parser: &mut Parser,
     source: &str,
     at: usize,
@@ -160,15 +162,15 @@ fn take_bracket(
     ensures { standing.Takes parser.old result parser.new (λ before. reading.at_bracket before (drop (at + 1) source.now)) }
 {
     let room = room_in(parser);
-    let (piece, taken) = bracket_behind(alloc, source, at, room)?;
-    push_piece(alloc, &mut parser.steps, &piece, room)?;
+    let (piece, taken) = bracket_behind(whole, source, at, room)?;
+    push_piece(whole.alloc(), &mut parser.steps, &piece, room)?;
     parser.is_due = false;
     Ok(taken)
 }
 
 /// A text in quotes, behind the opening one.
 fn take_quotes(
-    alloc: Global,
+    whole: &SourceText,
     parser: &mut Parser,
     source: &str,
     at: usize,
@@ -179,8 +181,8 @@ fn take_quotes(
     ensures { standing.Takes parser.old result parser.new (λ before. reading.at_quote before (drop (at + 1) source.now)) }
 {
     let room = room_in(parser);
-    let (pieces, taken) = quotes_behind(alloc, source, at, room)?;
-    push_text(alloc, &mut parser.steps, pieces.as_slice(), room)?;
+    let (pieces, taken) = quotes_behind(whole, source, at, room)?;
+    push_text(whole.alloc(), &mut parser.steps, pieces.as_slice(), room)?;
     parser.is_due = false;
     Ok(taken)
 }
@@ -200,7 +202,7 @@ fn take_braces(alloc: Global, parser: &mut Parser, behind: &[u8]) -> Result<usiz
 
 /// What stands where an operand is due.
 fn take_operand(
-    alloc: Global,
+    whole: &SourceText,
     parser: &mut Parser,
     source: &str,
     at: usize,
@@ -227,12 +229,12 @@ fn take_operand(
         Mark::Tilde => take_sign(parser, UnaryOperator::Complement),
         Mark::Bang => take_sign(parser, UnaryOperator::Not),
         Mark::OpenParen => take_paren(parser),
-        Mark::Dollar => take_dollar(alloc, parser, source, at),
-        Mark::OpenBracket => take_bracket(alloc, parser, source, at),
-        Mark::Quote => take_quotes(alloc, parser, source, at),
-        Mark::OpenBrace => take_braces(alloc, parser, behind),
-        Mark::Digit => take_number(alloc, parser, text),
-        Mark::Letter => take_word(alloc, parser, text),
+        Mark::Dollar => take_dollar(whole, parser, source, at),
+        Mark::OpenBracket => take_bracket(whole, parser, source, at),
+        Mark::Quote => take_quotes(whole, parser, source, at),
+        Mark::OpenBrace => take_braces(whole.alloc(), parser, behind),
+        Mark::Digit => take_number(whole.alloc(), parser, text),
+        Mark::Letter => take_word(whole.alloc(), parser, text),
         _ => Err(ExprFault::Syntax),
     }
 }
@@ -270,7 +272,7 @@ fn take_found(parser: &mut Parser, found: Option<(Link, usize)>) -> Result<usize
 
 /// What stands at a place, and how many further bytes it takes.
 fn take_token(
-    alloc: Global,
+    whole: &SourceText,
     parser: &mut Parser,
     source: &str,
     at: usize,
@@ -280,7 +282,7 @@ fn take_token(
     ensures { standing.TakesToken parser.old result parser.new (drop at source.now) }
 {
     if parser.is_due {
-        take_operand(alloc, parser, source, at)
+        take_operand(whole, parser, source, at)
     } else {
         take_operator(parser, &source.as_bytes()[at..])
     }
@@ -319,20 +321,20 @@ fn finish(parser: Parser) -> Result<Vec<Step>, ExprFault>
 }
 
 /// The steps of a text's tree, in one pass over its bytes.
-pub fn read_all(alloc: Global, source: &str) -> Result<Vec<Step>, ExprFault>
+pub fn read_all(whole: &SourceText, source: &str) -> Result<Vec<Step>, ExprFault>
     requires { length source.now ≤ most_bytes }
     ensures steps { IfOk result (λ steps. reading.compiled_by (reading.tree_reading 0 reading.AtOperand [] source.now) ≡ Ok steps.items) }
     ensures fault { IfErr result (λ fault. standing.IsFaultOrMemory (reading.tree_reading 0 reading.AtOperand [] source.now) fault) }
 {
     let mut parser = Parser {
-        steps: Vec::new(alloc),
-        opened: Vec::new(alloc),
+        steps: Vec::new(whole.alloc()),
+        opened: Vec::new(whole.alloc()),
         parens: 0,
         is_due: true,
     };
     let mut at = 0;
     while at < source.len() {
-        let skip = take_token(alloc, &mut parser, source, at)?;
+        let skip = take_token(whole, &mut parser, source, at)?;
         let left = source.len() - at - 1;
         at = at + 1 + skip.min(left);
     }

@@ -9,7 +9,7 @@ use crate::step::Step;
 use crate::variable::VariableName;
 use std::alloc::Global;
 use tcl_text::Text;
-use tcl_words::{ParseFault, Piece};
+use tcl_words::{Excerpt, ParseFault, Piece};
 
 /// Whether steps were written.
 pub type Written = Result<(), ExprFault>;
@@ -24,7 +24,7 @@ enum Due<'a> {
     /// The join of two texts.
     Join,
     /// The element of this array, whose index is written.
-    Element(&'a Text),
+    Element(&'a Excerpt),
 }
 
 /// The steps of a text begin: what it has is due.
@@ -97,7 +97,7 @@ fn write_due<'a>(
             }
         }
         Due::Join => steps.push(Step::Join)?,
-        Due::Element(array) => steps.push(Step::Element(array.copy()?))?,
+        Due::Element(array) => steps.push(Step::Element(array.to_text()?))?,
     }
     Ok(())
 }

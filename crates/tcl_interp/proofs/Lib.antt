@@ -8,6 +8,7 @@ pub mod Elements
 pub mod Ends
 pub mod Finishing
 pub mod IndexLemmas
+pub mod ItemsLemmas
 pub mod Kept
 pub mod LeavesSame
 pub mod Loops

@@ -15,7 +15,8 @@ use Rattle.tcl_control.specs.declared.code.Code.{Code}
 use Rattle.tcl_control.specs.declared.code.Code.TheVariants.{Normal}
 use Rattle.tcl_control.specs.declared.context.Context.{Context}
 use Rattle.tcl_control.specs.declared.plan.Plan.TheVariants as plan
-use Rattle.tcl_control.specs.Choices.{if_by}
+use Rattle.tcl_control.specs.declared.plan.Plan.{Plan}
+use Rattle.tcl_control.specs.Choices.{if_by, switch_plan}
 use Rattle.tcl_control.specs.Control.{by_command, keeps_all}
 use Rattle.tcl_table.specs.Source.{script_of}
 use Rattle.tcl_interp.specs.declared.chosen.Chosen.TheVariants as chosen
@@ -25,7 +26,7 @@ use Rattle.tcl_interp.specs.declared.reach.Past.TheVariants as past
 use Rattle.tcl_interp.specs.Outside.{Outside}
 use Rattle.tcl_interp.specs.Evaluation.{and_then, called}
 use Rattle.tcl_interp.specs.Finish.{Begins, Calls, Ends, ForCommand, GoesOn, Waiting, waits_meaning, words_rest}
-use Rattle.tcl_interp.specs.Moves.{Standing, after_command, choice_move, chosen_move, moved, otherwise_move, standing}
+use Rattle.tcl_interp.specs.Moves.{Standing, after_command, choice_move, chosen_move, moved, otherwise_move, plan_move, standing}
 use Rattle.tcl_interp.specs.Quiet.{Leads}
 use Rattle.tcl_interp.specs.Rests.{commands_in, words_in_front}
 use Rattle.tcl_interp.specs.Simple.{CommandEnds, EndsCall, GivesWord, IsWritten, WordsLead}
@@ -279,3 +280,57 @@ module _ {S K : Type 0} (outside : Outside S K) where
       → Leads (standing (moved (GoesOn inner [] text) (ForCommand room after ∷ waits)) store context) (standing (moved (GoesOn room after text) waits) store context)
   if_through room inner after text waits store context =
       script_leads inner [] 0 text store context (ForCommand room after ∷ waits) (standing (moved (GoesOn room after text) waits) store context) (omega arith) refl
+
+  -- ── `switch` ──
+
+  -- a name that is written, and the words behind it
+  named_leads : (room : ℕ) (words : List Word) (store : Store) (context : Context) (name : List ℕ) (arguments : List (List ℕ)) (count : ℕ) → 0 < length words → WrittenAt 0 words name
+      → WordsLead outside room store context (drop 1 words) (name ∷ []) count [] (name ∷ arguments) → WordsLead outside room store context words [] count [] (name ∷ arguments)
+  named_leads room [] store context name arguments count some named leads = absurd (omega (arith, some))
+  named_leads room (word ∷ words) store context name arguments count some named leads =
+      let sum : 0 + count ≡ count = omega arith in
+      subst (λ n. WordsLead outside room store context (word ∷ words) [] n [] (name ∷ arguments)) sum
+      (words_lead outside room store context (word ∷ words) words [] [] (name ∷ []) (name ∷ arguments) 0 count
+      (word_leads_suc outside room (word ∷ words) 0 store context 0 name [] (omega arith) (written_gives outside room (word ∷ words) store context name named.0 named.1)) leads)
+
+  -- it does what its plan says
+  switch_leads : (room : ℕ) (commands : List Command) (i : ℕ) (previous name : List ℕ) (arguments : List (List ℕ)) (count : ℕ) (p : Plan) (waits : List (Waiting K)) (shows : S) (store : Store) (context : Context) (words : List Word) (next : Standing K)
+      → words ≡ words_in_front (drop i commands) → WrittenAt 0 words name → command_of context.commands (plain_name name) ≡ Some (command.Builtin builtin.Switch)
+      → WordsLead outside room store context (drop 1 words) (name ∷ []) count [] (name ∷ arguments) → switch_plan arguments ≡ p
+      → Leads (plan_move room store context (ForCommand room (drop (i + 1) commands) ∷ waits) p) next
+      → TakesSteps outside (count + 1) (standing (moved (GoesOn room (drop i commands) previous) waits) store context) shows next shows
+  switch_leads room commands i previous name arguments count p waits shows store context words next at named binding leads planned goes =
+      let some : 0 < length words = written_some words name named.0 in
+      let all : WordsLead outside room store context words [] count [] (name ∷ arguments) = named_leads room words store context name arguments count some named leads in
+      place_leads outside room commands i previous waits shows store context count (name ∷ arguments) next shows (subst (λ ws. 0 < length ws) at some) (omega arith)
+      (subst (λ ws. WordsLead outside room store context ws [] count [] (name ∷ arguments)) at all)
+      (call_plan outside room name arguments (ForCommand room (drop (i + 1) commands) ∷ waits) shows store context store context p next
+      (sym (ap (by_command name arguments store context) binding ∙ ap (keeps_all store context) planned)) goes)
+
+  -- it has ended
+  pub switch_ends : (room : ℕ) (commands : List Command) (i : ℕ) (previous name : List ℕ) (arguments : List (List ℕ)) (count : ℕ) (code : Code) (text : List ℕ) (waits : List (Waiting K)) (shows : S) (store : Store) (context : Context) (words : List Word)
+      → words ≡ words_in_front (drop i commands) → WrittenAt 0 words name → command_of context.commands (plain_name name) ≡ Some (command.Builtin builtin.Switch)
+      → WordsLead outside room store context (drop 1 words) (name ∷ []) count [] (name ∷ arguments) → switch_plan arguments ≡ plan.Ends code text
+      → TakesSteps outside (count + 1) (standing (moved (GoesOn room (drop i commands) previous) waits) store context) shows (standing (after_command room (drop (i + 1) commands) waits code text) store context) shows
+  switch_ends room commands i previous name arguments count code text waits shows store context words at named binding leads planned =
+      let third : Standing K = standing (after_command room (drop (i + 1) commands) waits code text) store context in
+      switch_leads room commands i previous name arguments count (plan.Ends code text) waits shows store context words third at named binding leads planned
+      (end_leads store context code text (ForCommand room (drop (i + 1) commands) ∷ waits) third refl)
+
+  -- it runs a body, which has come so far
+  pub switch_begins : (room : ℕ) (commands : List Command) (i : ℕ) (previous name script : List ℕ) (arguments : List (List ℕ)) (count : ℕ) (waits : List (Waiting K)) (shows : S) (store : Store) (context : Context) (words : List Word) (store' : Store) (steps : ℕ) (way : Past)
+      → 0 < room → words ≡ words_in_front (drop i commands) → WrittenAt 0 words name → command_of context.commands (plain_name name) ≡ Some (command.Builtin builtin.Switch)
+      → WordsLead outside room store context (drop 1 words) (name ∷ []) count [] (name ∷ arguments) → switch_plan arguments ≡ plan.Runs script → IsOk (script_of script)
+      → TakesSteps outside steps (standing (moved (GoesOn (room - 1) (commands_in script) []) (ForCommand room (drop (i + 1) commands) ∷ waits)) store context) shows (standing (past_to room i commands previous way waits) store' context) shows
+      → TakesSteps outside (steps + (count + 1)) (standing (moved (GoesOn room (drop i commands) previous) waits) store context) shows (standing (past_to room i commands previous way waits) store' context) shows
+  switch_begins room commands i previous name script arguments count waits shows store context words store' steps way some at named binding leads planned read went =
+      let after : List (Waiting K) = ForCommand room (drop (i + 1) commands) ∷ waits in
+      let first : Standing K = standing (moved (GoesOn room (drop i commands) previous) waits) store context in
+      let second : Standing K = standing (moved (GoesOn (room - 1) (commands_in script) []) after) store context in
+      let third : Standing K = standing (past_to room i commands previous way waits) store' context in
+      let sum : (count + 1) + steps ≡ steps + (count + 1) = omega arith in
+      subst (λ n. TakesSteps outside n first shows third shows) sum
+      (steps_on outside (count + 1) steps first second third shows shows shows
+      (switch_leads room commands i previous name arguments count (plan.Runs script) waits shows store context words second at named binding leads planned
+      (script_begins room script after store context some read))
+      went)

@@ -9,6 +9,7 @@ pub mod Expressions
 pub mod Falls
 pub mod Finish
 pub mod Interp
+pub mod Items
 pub mod JobLaws
 pub mod Leaves
 pub mod LoopLaws

@@ -11,6 +11,8 @@ use Rattle.tcl_control.specs.declared.context.Context.{Context}
 use Rattle.tcl_table.specs.Source.{script_of}
 use Rattle.tcl_interp.specs.declared.chosen.Chosen.{Chosen}
 use Rattle.tcl_interp.specs.declared.chosen.Chosen.TheVariants as chosen
+use Rattle.tcl_interp.specs.declared.chosen.Switched.{Switched}
+use Rattle.tcl_interp.specs.declared.chosen.Switched.TheVariants as switched
 use Rattle.tcl_interp.specs.declared.machine.ScriptPlace.{ScriptPlace}
 use Rattle.tcl_interp.specs.declared.reach.Came.{Came}
 use Rattle.tcl_interp.specs.declared.reach.Came.TheVariants as came
@@ -19,6 +21,8 @@ use Rattle.tcl_interp.specs.declared.reach.Past.TheVariants as past
 use Rattle.tcl_interp.specs.declared.reach.Reach.{Reach}
 use Rattle.tcl_interp.specs.declared.reach.Reach.TheVariants as reach
 use Rattle.tcl_interp.specs.declared.reach.Stop.{Stop}
+use Rattle.tcl_control.specs.declared.plan.Plan.TheVariants.{Ends as PlanEnds, Runs as PlanRuns}
+use Rattle.tcl_control.specs.Choices.{switch_plan}
 use Rattle.tcl_control.specs.Expressions.{truth_of_text}
 use Rattle.tcl_interp.specs.Finish.{Ends, ForCommand, GoesOn, Waiting}
 use Rattle.tcl_interp.specs.Moves.{Moved, after_command, expression_begins, moved, standing}
@@ -63,6 +67,12 @@ IfWords words test body None =
 IfWords words test body (Some last) =
     (length words ≡ 5) × WrittenAt 1 words test × WrittenAt 2 words body × (bytes_eq body (codes "then") ≡ false) × WrittenAt 3 words (codes "else")
     × WrittenAt 4 words last
+
+-- `switch` with these words behind its name ends so, or runs this body
+abbrev pub Switches : List (List ℕ) → Switched → Type 0
+Switches words (switched.Ends code text) = switch_plan words ≡ PlanEnds code text
+Switches words (switched.Runs script) = (switch_plan words ≡ PlanRuns script) × IsOk (script_of script)
+Switches words switched.Other = Unit {0}
 
 module _ {S K : Type 0} (outside : Outside S K) where
   -- a command of these words came so far for so many steps, with these variables, where scripts in it have so much room

@@ -1,16 +1,16 @@
 //! `if` whose words are written, with a condition that was read before and of which straight code knows whether it holds, also behind a script in
-//! brackets in front of it that is plain.
+//! brackets in front of it that is plain; and `switch`, whose body was read before.
 ghost use Rattle.std.specs.Prelude.{◌≡◌, ◌<◌, ◌≤◌, length, IfOk, IfSome};
 ghost use Rattle.std.specs.Option.{option_copied};
 ghost use Rattle.tcl_table.specs.Levels.{here};
-ghost use Rattle.tcl_interp.specs.Whole.{Chooses, Decides, IfWords};
+ghost use Rattle.tcl_interp.specs.Whole.{Chooses, Decides, IfWords, Switches};
 
 use crate::openings::holds;
 use crate::seen::Seen;
 use crate::simple::{DEPTH, script_value, written};
 use crate::tasks::Tasks;
 use std::alloc::{AllocError, Global};
-use tcl_control::{Context, integer_of};
+use tcl_control::{Code, Context, Plan, integer_of, switch_plan};
 use tcl_expr::Expr;
 use tcl_text::Text;
 use tcl_vars::Scopes;
@@ -30,6 +30,17 @@ pub enum Chosen {
 pub struct Choice {
     pub chosen: Chosen,
     pub steps: u64,
+}
+
+/// What `switch` does.
+#[derive(Drop)]
+pub enum Switched {
+    /// It has ended, where no pattern takes the value, or with an error.
+    Ends(Code, Text),
+    /// It runs this body.
+    Runs(Script),
+    /// Something else, or its body wasn't read before.
+    Other,
 }
 
 /// Whether a condition holds, and the steps that were taken for it.
@@ -199,5 +210,24 @@ pub fn choose_body<T: Tasks>(
             Ok(Some(Choice { chosen, steps }))
         }
         None => Ok(None),
+    }
+}
+
+/// What `switch` does with these words behind its name, where the body that it runs was read before.
+pub fn choose_arm(alloc: Global, context: &Context, words: &[Text]) -> Result<Switched, AllocError>
+    ensures { IfOk result (Switches words.now) }
+{
+    let plan = switch_plan(alloc, words)?;
+    match plan {
+        Plan::Ends(code, text) => Ok(Switched::Ends(code, text)),
+        Plan::Runs(body) => {
+            let text = body.text()?;
+            let kept = context.commands.kept_script(&text)?;
+            match kept {
+                Some(script) => Ok(Switched::Runs(script)),
+                None => Ok(Switched::Other),
+            }
+        }
+        _ => Ok(Switched::Other),
     }
 }

@@ -6,6 +6,7 @@ mod chosen;
 mod element_laws;
 mod expressions;
 mod interp;
+mod items;
 mod job;
 mod job_laws;
 mod jobs;

@@ -2,12 +2,13 @@
 //! and tests of loops.
 ghost use Rattle.std.specs.Prelude.{◌≡◌, ◌<◌, ◌≤◌, ◌+◌, IfOk, List, OnErr};
 ghost use Rattle.tcl_vars.specs.Store.{Store};
-ghost use Rattle.tcl_interp.specs.Finish.{GoesOn, Waiting};
+ghost use Rattle.tcl_interp.specs.Finish.{GoesOn, Tests, Waiting};
 ghost use Rattle.tcl_interp.specs.Moves.{moved, standing};
 ghost use Rattle.tcl_interp.specs.Quiet.{Leads, ends_move};
 ghost use Rattle.tcl_interp.specs.Rests.{doing_of, left_in, standing_of, waits_of};
 ghost use Rattle.tcl_interp.specs.Steps.{TakesSteps};
 
+use crate::items::{Over, front_over, items_turns, lists_of, stand_over};
 use crate::machine::{Frame, Front, Next, Now, ScriptPlace};
 use crate::moves::{begun, ended, wake};
 use crate::simple::{Gone, run_one};
@@ -16,7 +17,7 @@ use crate::tasks::Tasks;
 use crate::turns::{front_at, go_round, run_on, stand_at};
 use crate::words::commands;
 use std::alloc::{AllocError, Global};
-use tcl_control::{Code, Context};
+use tcl_control::{Code, Context, Looping, Test};
 use tcl_text::Text;
 use tcl_vars::Scopes;
 
@@ -196,6 +197,100 @@ fn run_script<T: Tasks>(
     }
 }
 
+/// Whether a loop goes over lists.
+fn is_over_lists(looping: &Looping) -> bool {
+    matches!(looping.get().test, Test::Items(_))
+}
+
+/// Makes whole turns of a loop over lists, for so many steps at most, and goes on to the next command or test. Where no step was taken, the loop stands
+/// where it was.
+fn run_items<T: Tasks>(
+    alloc: Global,
+    scopes: &mut Scopes,
+    context: &mut Context,
+    frames: &mut Vec<Frame<T::Task>>,
+    looping: Looping,
+    room: u64,
+    front: Front,
+    most: u64,
+    left: &mut u64,
+) -> Result<Gone<T::Task>, AllocError>
+    requires some { 0 < most }
+    requires there { most ≤ left.old }
+    ensures ok { IfOk result (λ gone. (shows : T.Shows) → TakesSteps T.outside gone.steps
+        (standing (moved (Tests room looping) (waits_of frames.old.items)) scopes.old context.old) shows
+        (standing_of gone.now frames.new.items scopes.new context.new) shows) }
+    ensures most { IfOk result (λ gone. gone.steps ≤ most) }
+    ensures counted { IfOk result (λ gone. gone.steps + left.new ≡ left.old) }
+    ensures taken { left.new ≤ left.old }
+    ensures within { left.old ≤ left.new + most }
+    ensures uncounted { OnErr result (left.new ≡ left.old → (scopes.new ≡ scopes.old) × (context.new ≡ context.old)) }
+{
+    let over = lists_of(alloc, &mut context.commands, looping, room)?;
+    match over {
+        Over::Other(looping) => Ok(Gone {
+            now: Now::Tests { room, looping },
+            steps: 0,
+            front,
+        }),
+        Over::Lists(groups, body) => {
+            let turned = items_turns::<T>(alloc, scopes, context, groups, &body, room, most, left)?;
+            let steps = turned.steps;
+            let front = front_over(&turned.at);
+            let stopped = stand_over(alloc, context, frames, room, body, turned.at)?;
+            let now = onward(alloc, scopes, context, frames, stopped)?;
+            Ok(Gone { now, steps, front })
+        }
+    }
+}
+
+/// Makes whole turns of a loop, or tests it, for so many steps at most, and goes on to the next command or test. Where no step was taken, the loop stands
+/// where it was.
+fn run_turns<T: Tasks>(
+    alloc: Global,
+    scopes: &mut Scopes,
+    context: &mut Context,
+    frames: &mut Vec<Frame<T::Task>>,
+    looping: Looping,
+    room: u64,
+    front: Front,
+    most: u64,
+    left: &mut u64,
+) -> Result<Gone<T::Task>, AllocError>
+    requires some { 0 < most }
+    requires there { most ≤ left.old }
+    ensures ok { IfOk result (λ gone. (shows : T.Shows) → TakesSteps T.outside gone.steps
+        (standing (moved (Tests room looping) (waits_of frames.old.items)) scopes.old context.old) shows
+        (standing_of gone.now frames.new.items scopes.new context.new) shows) }
+    ensures most { IfOk result (λ gone. gone.steps ≤ most) }
+    ensures counted { IfOk result (λ gone. gone.steps + left.new ≡ left.old) }
+    ensures taken { left.new ≤ left.old }
+    ensures within { left.old ≤ left.new + most }
+    ensures uncounted { OnErr result (left.new ≡ left.old → (scopes.new ≡ scopes.old) × (context.new ≡ context.old)) }
+{
+    if is_over_lists(&looping) {
+        return run_items::<T>(
+            alloc, scopes, context, frames, looping, room, front, most, left,
+        );
+    }
+    let turned = go_round::<T>(alloc, scopes, context, looping.get(), room, most, left)?;
+    let steps = turned.steps;
+    if steps > 0 {
+        let front = front_at(&turned.at);
+        let stopped = stand_at(context, frames, looping, room, turned.at)?;
+        let now = onward(alloc, scopes, context, frames, stopped)?;
+        return Ok(Gone { now, steps, front });
+    }
+    *left -= 1;
+    let tested = test(alloc, scopes, context, frames, looping, room)?;
+    let now = onward(alloc, scopes, context, frames, tested)?;
+    Ok(Gone {
+        now,
+        steps: 1,
+        front: Front::New,
+    })
+}
+
 /// Runs the next commands of a script, or tests a loop, for so many steps at most, and goes on to the next command or test. Where no step was taken,
 /// what is to be done needs a move.
 fn run_next<T: Tasks>(
@@ -233,24 +328,9 @@ fn run_next<T: Tasks>(
             let now = onward(alloc, scopes, context, frames, gone.now)?;
             Ok(Gone { now, steps, front })
         }
-        Now::Tests { room, looping } => {
-            let turned = go_round::<T>(alloc, scopes, context, looping.get(), room, most, left)?;
-            let steps = turned.steps;
-            if steps > 0 {
-                let front = front_at(&turned.at);
-                let stopped = stand_at(context, frames, looping, room, turned.at)?;
-                let now = onward(alloc, scopes, context, frames, stopped)?;
-                return Ok(Gone { now, steps, front });
-            }
-            *left -= 1;
-            let tested = test(alloc, scopes, context, frames, looping, room)?;
-            let now = onward(alloc, scopes, context, frames, tested)?;
-            Ok(Gone {
-                now,
-                steps: 1,
-                front: Front::New,
-            })
-        }
+        Now::Tests { room, looping } => run_turns::<T>(
+            alloc, scopes, context, frames, looping, room, front, most, left,
+        ),
         now => Ok(Gone {
             now,
             steps: 0,

@@ -62,8 +62,8 @@ pub fn written(words: &[Word], index: usize) -> Option<&Text>
     ensures { IfSome result (λ text. IsWritten (drop index words.now) text.now × (length text.now ≤ most_bytes)) }
 {
     let word = words.get(index)?;
-    match word.pieces.as_slice() {
-        [Piece::Literal(text)] if !word.expand => {
+    match word.pieces() {
+        [Piece::Literal(text)] if !word.expand() => {
             let _short = text.as_str();
             Some(text)
         }
@@ -76,8 +76,8 @@ fn bracketed(words: &[Word], index: usize) -> Option<&Script>
     ensures { IfSome result (λ script. (expand_in_front (drop index words.now) ≡ false) × (pieces_in_front (drop index words.now) ≡ Bracket script.now ∷ [])) }
 {
     let word = words.get(index)?;
-    match word.pieces.as_slice() {
-        [Piece::Bracket(script)] if !word.expand => Some(script),
+    match word.pieces() {
+        [Piece::Bracket(script)] if !word.expand() => Some(script),
         _ => None,
     }
 }
@@ -341,7 +341,7 @@ pub fn script_value<T: Tasks>(
     let [command] = commands(script) else {
         return Ok(None);
     };
-    let words = command.words.as_slice();
+    let words = command.words();
     let Some(name) = written(words, 0) else {
         return Ok(None);
     };

@@ -45,7 +45,7 @@ fn begin_unread<T: Tasks>(
     ensures shows { T.shows tasks.new ≡ T.shows tasks.old }
     ensures left { T.left_alone tasks.new ≡ T.left_alone tasks.old }
 {
-    let source = source_of(tasks, script.text())?;
+    let source = source_of(tasks, &script.text()?)?;
     source.keep(&mut context.commands)?;
     begun(alloc, &mut context.commands, source, room)
 }

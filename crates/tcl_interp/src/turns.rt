@@ -55,7 +55,7 @@ pub struct Turned {
 }
 
 /// A script that has been read, with its commands.
-fn script_read(table: &mut CommandTable, source: &Source) -> Result<Option<Script>, AllocError>
+pub fn script_read(table: &mut CommandTable, source: &Source) -> Result<Option<Script>, AllocError>
     ensures table { table.new ≡ table.old }
     ensures script { IfOk result (λ found. IfSome found (λ script. (script ≡ source.now) × IsOk (script_of script))) }
 {
@@ -342,7 +342,7 @@ fn stand<K: Drop>(context: &mut Context, frames: &mut Vec<Frame<K>>, stop: Stop)
 }
 
 /// The same, where this waits for the last of them.
-fn stand_in<K: Drop>(
+pub fn stand_in<K: Drop>(
     context: &mut Context,
     frames: &mut Vec<Frame<K>>,
     frame: Frame<K>,

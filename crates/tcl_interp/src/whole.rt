@@ -1,4 +1,4 @@
-//! Scripts of commands that are done on their words as they are written, and `if` among them, as far as they go on without moves.
+//! Scripts of commands that are done on their words as they are written, and `if` and `switch` among them, as far as they go on without moves.
 ghost use Rattle.std.specs.Prelude.{◌≡◌, IsTrue, ◌<◌, ◌≤◌, ◌+◌, ◌-◌, [], ◌∷◌, ℕ, length, drop, List, Some, IfOk, OnErr};
 ghost use Rattle.tcl_table.specs.Names.{plain_name};
 ghost use Rattle.tcl_table.specs.Table.{command_of};
@@ -9,10 +9,10 @@ ghost use Rattle.tcl_interp.specs.Steps.{TakesSteps};
 ghost use Rattle.tcl_interp.specs.Whole.{WrittenAt, came_to, past_to, reached_to, stopped_in};
 
 use crate::calls::{do_leaving, do_texts, do_variable};
-use crate::chosen::{Choice, Chosen, choose_body};
+use crate::chosen::{Choice, Chosen, Switched, choose_arm, choose_body};
 use crate::machine::{Front, ScriptPlace};
 use crate::reach::{Came, Passed, Past, Reach, Reached, Stop, Went};
-use crate::simple::{command_named, written};
+use crate::simple::{DEPTH, command_named, plain_words, written};
 use crate::tasks::Tasks;
 use crate::words::{commands, words_at};
 use std::alloc::{AllocError, Global};
@@ -50,7 +50,7 @@ fn place_behind(script: &Script, place: usize) -> usize
     if place < count { place + 1 } else { place }
 }
 
-/// Runs the body that `if` has chosen, by the command at a place of a script, for so many steps at most.
+/// Runs the body that `if` or `switch` has chosen, by the command at a place of a script, for so many steps at most.
 #[cycle(scripts)]
 fn run_body<T: Tasks>(
     alloc: Global,
@@ -155,6 +155,71 @@ fn run_if<T: Tasks>(
     }
 }
 
+/// Runs `switch` of this name at a place of a script, where its words are plain and its body was read before, for so many steps at most.
+#[cycle(scripts)]
+#[inline(never)]
+fn run_switch<T: Tasks>(
+    alloc: Global,
+    scopes: &mut Scopes,
+    context: &Context,
+    script: &Script,
+    place: usize,
+    words: &[Word],
+    name: &Text,
+    room: u64,
+    most: u64,
+    left: &mut u64,
+) -> Result<Passed, AllocError>
+    requires place { place < length (commands_in script.now) }
+    requires words { words.now ≡ words_in_front (drop place (commands_in script.now)) }
+    requires name { WrittenAt 0 words.now name.now }
+    requires calls { command_of context.now.commands (plain_name name.now) ≡ Some (Command.Builtin Builtin.Switch) }
+    requires some { 0 < most }
+    requires there { most ≤ left.old }
+    ensures ok { IfOk result (λ passed. (previous : List ℕ) (waits : List (Waiting T.Task)) (shows : T.Shows) → TakesSteps T.outside passed.steps
+        (standing (moved (GoesOn room (drop place (commands_in script.now)) previous) waits) scopes.old context.now) shows
+        (standing (past_to room place (commands_in script.now) previous passed.past waits) scopes.new context.now) shows) }
+    ensures most { IfOk result (λ passed. passed.steps ≤ most) }
+    ensures counted { IfOk result (λ passed. passed.steps + left.new ≡ left.old) }
+    ensures taken { left.new ≤ left.old }
+    ensures within { left.old ≤ left.new + most }
+    ensures untaken { IfOk result (λ passed. passed.steps ≡ 0 → scopes.new ≡ scopes.old) }
+    ensures uncounted { OnErr result (left.new ≡ left.old → scopes.new ≡ scopes.old) }
+{
+    let few = most - 1;
+    let found = plain_words::<T>(alloc, scopes, context, words, 1, room, few, DEPTH)?;
+    let Some(found) = found else {
+        return Ok(Passed {
+            past: Past::Before(Front::Unplain),
+            steps: 0,
+        });
+    };
+    let before = found.steps + 1;
+    let arguments = found.words.as_slice();
+    let done = choose_arm(alloc, context, arguments)?;
+    match done {
+        Switched::Ends(code, text) => {
+            *left -= before;
+            let past = Past::Behind(code, text);
+            let steps = before;
+            Ok(Passed { past, steps })
+        }
+        Switched::Runs(body) if room > 0 => {
+            *left -= before;
+            let fewer = most - before;
+            let Passed { past, steps } = run_body::<T>(
+                alloc, scopes, context, script, place, &body, room, fewer, left,
+            )?;
+            let steps = steps + before;
+            Ok(Passed { past, steps })
+        }
+        _ => Ok(Passed {
+            past: Past::Before(Front::Other),
+            steps: 0,
+        }),
+    }
+}
+
 /// Whether a command is one that only leaves what runs it.
 fn leaves(builtin: Builtin) -> bool {
     matches!(
@@ -209,6 +274,9 @@ fn run_command<T: Tasks>(
             )
         }
         Some(Command::Builtin(Builtin::If)) => run_if::<T>(
+            alloc, scopes, context, script, place, words, name, room, most, left,
+        ),
+        Some(Command::Builtin(Builtin::Switch)) => run_switch::<T>(
             alloc, scopes, context, script, place, words, name, room, most, left,
         ),
         Some(Command::Builtin(builtin)) if leaves(*builtin) => {

@@ -68,7 +68,7 @@ fn piece_value(
             Err(fault) => Ok(Value::Fails(fault.text(alloc, name.as_str())?)),
         },
         Piece::Element(name, index) => {
-            Ok(Value::Waits(Part::Element(name.copy()?, index.copy()?)))
+            Ok(Value::Waits(Part::Element(name.to_text()?, index.copy()?)))
         }
         Piece::Bracket(script) => Ok(Value::Waits(Part::Script(script.copy()?))),
     }
@@ -137,7 +137,7 @@ pub fn words_at(script: &Script, place: usize) -> &[Word]
     ensures { result.now ≡ words_in_front (drop place (commands_in script.now)) }
 {
     match commands(script).get(place) {
-        Some(command) => command.words.as_slice(),
+        Some(command) => command.words(),
         None => &[],
     }
 }
@@ -154,7 +154,7 @@ pub fn pieces_at(words: &[Word], index: usize) -> &[Piece]
     ensures { result.now ≡ pieces_in_front (drop index words.now) }
 {
     match words.get(index) {
-        Some(word) => word.pieces.as_slice(),
+        Some(word) => word.pieces(),
         None => &[],
     }
 }
@@ -164,7 +164,7 @@ pub fn expand_at(words: &[Word], index: usize) -> bool
     ensures { result ≡ expand_in_front (drop index words.now) }
 {
     match words.get(index) {
-        Some(word) => word.expand,
+        Some(word) => word.expand(),
         None => false,
     }
 }
@@ -308,9 +308,9 @@ pub fn single_text(
     let Some(word) = words.get(index) else {
         return Ok(None);
     };
-    match word.pieces.as_slice() {
-        [Piece::Literal(text)] if !word.expand => Ok(Some(text.copy()?)),
-        [Piece::Variable(name)] if !word.expand => match scopes.get(level, name) {
+    match word.pieces() {
+        [Piece::Literal(text)] if !word.expand() => Ok(Some(text.copy()?)),
+        [Piece::Variable(name)] if !word.expand() => match scopes.get(level, name) {
             Ok(value) => Ok(Some(value.copy()?)),
             Err(_) => Ok(None),
         },
@@ -325,13 +325,13 @@ fn is_plain_piece(piece: &Piece) -> bool {
 
 /// Whether a word is made of texts and values of variables.
 fn is_simple_word(word: &Word) -> bool {
-    !word.expand && word.pieces.as_slice().iter().all(is_plain_piece)
+    !word.expand() && word.pieces().iter().all(is_plain_piece)
 }
 
 /// Whether a command of so many words has a name, as it is written, that one on texts or lists has at first, or is `expr` with one argument.
 /// What the name calls isn't looked up.
 fn has_plain_name(name: &Word, count: usize) -> bool {
-    match name.pieces.as_slice() {
+    match name.pieces() {
         [Piece::Literal(text)] => match text.as_str() {
             "expr" => count == 2,
             "concat"
@@ -354,10 +354,10 @@ fn has_plain_name(name: &Word, count: usize) -> bool {
 
 /// The words in the brackets that a word is, where they are those of one command of such a name, and none otherwise.
 fn words_in_brackets(word: &Word) -> &[Word] {
-    match word.pieces.as_slice() {
-        [Piece::Bracket(script)] if !word.expand => match script.commands() {
+    match word.pieces() {
+        [Piece::Bracket(script)] if !word.expand() => match script.commands() {
             [command] => {
-                let words = command.words.as_slice();
+                let words = command.words();
                 match words {
                     [name, ..] if has_plain_name(name, words.len()) => words,
                     _ => &[],

@@ -188,7 +188,7 @@ impl CommandTable {
         ensures reading { IfOk result (λ reading. MatchResult reading (λ script. (script ≡ text.now) × IsOk (script_of text.now))
             (λ fault. script_of text.now ≡ Err fault)) }
     {
-        let place = place_of(text);
+        let place = place_of(text.as_str());
         if let Some(script) = script_at(self.scripts.as_slice(), place, text)? {
             return Ok(Ok(script));
         }
@@ -207,14 +207,14 @@ impl CommandTable {
         ensures { IfOk result (λ kept. IfSome kept (λ script. (script ≡ text.now) × IsOk (script_of text.now))) }
     {
         let _ = &self.entries;
-        script_at(self.scripts.as_slice(), place_of(text), text)
+        script_at(self.scripts.as_slice(), place_of(text.as_str()), text)
     }
 
     /// Keeps a script that was read elsewhere by its text, at one of 256 places, in place of what is there.
     pub fn keep_script(&mut self, script: &Script) -> Result<(), AllocError>
         ensures { self.new ≡ self.old }
     {
-        self.keep_at(place_of(script.text()), script)
+        self.keep_at(place_of(script.text().as_str()), script)
     }
 
     /// Keeps a script at a place, instead of what is there.
@@ -245,7 +245,7 @@ impl CommandTable {
         ensures { IfOk result (λ kept. IfSome kept (λ expr. expr ≡ text.now)) }
     {
         let _ = &self.entries;
-        expression_at(self.expressions.as_slice(), place_of(text), text)
+        expression_at(self.expressions.as_slice(), place_of(text.as_str()), text)
     }
 
     /// The same, to look at.
@@ -253,14 +253,14 @@ impl CommandTable {
         ensures { IfSome result (λ expr. expr.now ≡ text.now) }
     {
         let _ = &self.entries;
-        expression_held(self.expressions.as_slice(), place_of(text), text)
+        expression_held(self.expressions.as_slice(), place_of(text.as_str()), text)
     }
 
     /// Keeps an expression by its text, at one of 256 places, in place of what is there.
     pub fn keep_expression(&mut self, expr: &Expr) -> Result<(), AllocError>
         ensures { self.new ≡ self.old }
     {
-        let place = place_of(expr.text());
+        let place = place_of(expr.text().as_str());
         self.count_kept(expr.text().as_str().len());
         if place < self.expressions.len() {
             self.expressions[place] = Some(expr.copy()?);

@@ -77,10 +77,10 @@ fn bytes_mixed(bytes: &[u8]) -> u64 {
 }
 
 /// The place of what was read of a text: by its length and the bytes at its ends, so that a long text costs no more than a short one.
-pub(crate) fn place_of(text: &Text) -> usize
+pub(crate) fn place_of(characters: &str) -> usize
     ensures { result < most_kept }
 {
-    let bytes = text.as_str().as_bytes();
+    let bytes = characters.as_bytes();
     let number = if bytes.len() < WORD {
         bytes_mixed(bytes)
     } else {

@@ -87,13 +87,13 @@ impl Source {
     }
 
     /// The script's text.
-    pub fn text(&self) -> &Text
-        ensures { result.now ≡ self.now }
+    pub fn text(&self) -> Result<Text, AllocError>
+        ensures { IfOk result (λ text. text ≡ self.now) }
     {
         match &self.form {
-            SourceForm::Unread(text) => text,
-            SourceForm::Read(script) => script.text(),
-            SourceForm::Faulty(_, text) => text,
+            SourceForm::Unread(text) => text.copy(),
+            SourceForm::Read(script) => script.text().to_text(),
+            SourceForm::Faulty(_, text) => text.copy(),
         }
     }
 
@@ -132,7 +132,7 @@ impl Source {
         let Source { form } = self;
         match form {
             SourceForm::Unread(text) => Ok(Source::of_text(text)),
-            SourceForm::Read(script) => Ok(Source::of_text(script.text().copy()?)),
+            SourceForm::Read(script) => Ok(Source::of_text(script.text().to_text()?)),
             SourceForm::Faulty(fault, text) => Ok(Source::at_fault(fault, text)),
         }
     }

@@ -2,7 +2,7 @@
 use std::alloc::{AllocError, Global};
 use std::mem::replace;
 use tcl_text::Text;
-use tcl_words::{Script, Span};
+use tcl_words::{Excerpt, Script, Span};
 
 /// How many places a note has at most: the innermost ones, and the outermost.
 const PLACES: usize = 16;
@@ -14,7 +14,7 @@ const NOTES: usize = 64;
 #[derive(Drop)]
 pub struct CommandPlace {
     /// The text of the script in which it stands.
-    pub script: Text,
+    pub script: Excerpt,
     /// Where it stands there, in bytes.
     pub span: Option<Span>,
     /// Whether the script is the body of a procedure.
@@ -35,7 +35,7 @@ impl CommandPlace {
         ensures body { IfOk result (λ place. place.is_in_body ≡ is_in_body) }
     {
         let span = match script.commands().get(index) {
-            Some(command) => Some(command.span.copy()),
+            Some(command) => Some(command.span().copy()),
             None => None,
         };
         Ok(CommandPlace {

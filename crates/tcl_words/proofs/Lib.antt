@@ -30,6 +30,7 @@ pub mod Cuts
 pub mod Closers
 pub mod Ends
 pub mod Escapes
+pub mod Excerpts
 pub mod Inners
 pub mod Joins
 pub mod KindLemmas

@@ -12,6 +12,8 @@ pub mod Parts
 pub mod Room
 pub mod Lists
 pub mod Places
+pub mod Parsed
+pub mod Sources
 pub mod Spans
 pub mod Grammar
 pub mod Joining

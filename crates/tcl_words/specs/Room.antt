@@ -20,9 +20,15 @@ abbrev pub pieces_room : List Piece → ℕ
 pieces_room [] = 0
 pieces_room (piece ∷ pieces) = max (piece_room piece) (pieces_room pieces)
 
+abbrev pub word_room : Word → ℕ
+word_room word = pieces_room word.pieces
+
 abbrev pub words_room : List Word → ℕ
 words_room [] = 0
 words_room (word ∷ words) = max (pieces_room word.pieces + 1) (words_room words)
+
+abbrev pub command_room : Command → ℕ
+command_room command = words_room command.words
 
 abbrev pub commands_room : List Command → ℕ
 commands_room [] = 0

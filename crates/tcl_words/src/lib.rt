@@ -11,6 +11,7 @@ mod parser;
 mod read;
 mod reader;
 mod script;
+mod source;
 mod span;
 mod taking;
 
@@ -21,6 +22,7 @@ pub use laws::{
 pub use operands::{Found, bracket_behind, quotes_behind, substitution_behind};
 pub use parser::parse;
 pub use reader::MAX_DEPTH;
-pub use script::{Command, Index, Piece, Pieces, Script, Word, WordForm, Words};
+pub use script::{Command, Index, Piece, Pieces, Script, Word, WordForm};
+pub use source::{Excerpt, SourceText};
 pub use span::Span;
 pub use tcl_text::ParseFault;

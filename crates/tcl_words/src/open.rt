@@ -4,7 +4,7 @@ ghost use Rattle.std.specs.Str.{IsCharBoundary};
 ghost use Rattle.tcl_words.specs.Parts.{MayEnd, with_word, with_command, with_piece, with_literal, with_braced, so_far, no_parts};
 ghost use Rattle.tcl_text.specs.Limits.{most_bytes};
 
-use crate::script::{Command, Piece, Pieces, Word, WordForm, Words};
+use crate::script::{Command, Piece, Pieces, Word, WordForm};
 use crate::span::Span;
 use std::alloc::{AllocError, Global};
 use std::marker::Model;
@@ -198,13 +198,9 @@ impl Open {
         requires { end ≤ most_bytes }
         ensures ok { OnOk result (self.new ≡ with_word self.old end) }
     {
-        let pieces = Pieces::taken(alloc, &mut self.pieces);
-        self.words.push(Word {
-            form: self.form,
-            expand: self.expand,
-            span: Span::new(self.word_start, end),
-            pieces,
-        })?;
+        let span = Span::new(self.word_start, end);
+        let word = Word::taken(alloc, self.form, self.expand, span, &mut self.pieces);
+        self.words.push(word)?;
         self.last_end = end;
         Ok(())
     }
@@ -213,12 +209,10 @@ impl Open {
     pub fn end_command(&mut self, alloc: Global) -> Result<(), AllocError>
         ensures ok { OnOk result (self.new ≡ with_command self.old) }
     {
-        let words = Words::taken(alloc, &mut self.words);
         let end = mem::replace(&mut self.last_end, self.command_start);
-        self.commands.push(Command {
-            span: Span::new(self.command_start, end),
-            words,
-        })?;
+        let span = Span::new(self.command_start, end);
+        let command = Command::taken(alloc, span, &mut self.words);
+        self.commands.push(command)?;
         Ok(())
     }
 }

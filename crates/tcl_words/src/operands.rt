@@ -15,7 +15,7 @@ use crate::open::{Open, text_of};
 use crate::read::{dollar_at, look, read_text, unfinished};
 use crate::reader::{opened, piece_of};
 use crate::script::{Piece, Pieces};
-use std::alloc::Global;
+use crate::source::SourceText;
 use tcl_text::ParseFault;
 
 /// What was found, and how many bytes are read with it.
@@ -39,16 +39,16 @@ fn opened_at(at: usize, opener: Opener, room: usize) -> Origin
 }
 
 /// What begins so, up to the bracket or the parenthesis that ends it, and how many bytes behind its base that stands.
-fn read_inside(alloc: Global, source: &str, first: Origin) -> Result<(Open, usize), ParseFault>
+fn read_inside(whole: &SourceText, source: &str, first: Origin) -> Result<(Open, usize), ParseFault>
     requires short { length source.now ≤ most_bytes }
     requires inside { first.inside ≡ true }
     requires begins { IsReading first source.now [] first (no_parts first.skip) first.place first.skip }
     ensures ends { IfOk result (λ found. EndsAt first source.now found.0 found.1) }
     ensures fault { IfErr result (λ fault. (own source.now first ≡ Err fault) ⊎ (fault ≡ ParseFault.NoMemory)) }
 {
-    let mut reader = Reader::new(alloc, first);
+    let mut reader = Reader::new(whole.alloc(), first);
     while reader.origin.base + reader.next < source.len() {
-        if reader.read_next(alloc, source)? {
+        if reader.read_next(whole, source)? {
             return Ok((reader.parts, reader.next));
         }
     }
@@ -56,7 +56,13 @@ fn read_inside(alloc: Global, source: &str, first: Origin) -> Result<(Open, usiz
 }
 
 /// What an opener at a place opens.
-fn read_opened(alloc: Global, source: &str, at: usize, opener: Opener, room: usize) -> Found<Piece>
+fn read_opened(
+    whole: &SourceText,
+    source: &str,
+    at: usize,
+    opener: Opener,
+    room: usize,
+) -> Found<Piece>
     requires short { length source.now ≤ most_bytes }
     requires within { at < length source.now }
     requires room { room ≤ most_nested }
@@ -67,28 +73,30 @@ fn read_opened(alloc: Global, source: &str, at: usize, opener: Opener, room: usi
     if room == 0 {
         return Err(ParseFault::TooLong);
     }
-    let (parts, close) = read_inside(alloc, source, opened_at(at, opener, room))?;
-    let piece = piece_of(alloc, source, at, close, opener, parts)?;
+    let (parts, close) = read_inside(whole, source, opened_at(at, opener, room))?;
+    let piece = piece_of(whole, source, at, close, opener, parts)?;
     Ok((piece, close + 1))
 }
 
 /// The script that a bracket at a place opens, where so many brackets and indices may be opened in one another, and how many bytes
 /// behind the place are read with the bracket that closes it (Tcl(n), "Command substitution"). A place counts the bytes before it.
 /// `TooLong` (4) where there is no room; else the first fault of the script (4 to 10), or `MissingBracket` (6) where it never ends.
-/// The source has at most 65,536 bytes, an ASCII byte stands at the place, and the room is at most 200.
-pub fn bracket_behind(alloc: Global, source: &str, at: usize, room: usize) -> Found<Piece>
+/// The source has at most 65,536 bytes, an ASCII byte stands at the place, and the room is at most 200. Parts share the memory of `whole`,
+/// where that is the source.
+pub fn bracket_behind(whole: &SourceText, source: &str, at: usize, room: usize) -> Found<Piece>
     requires { MayOpen room source.now at }
     ensures { IsReadAs result (bracket_of room (drop (at + 1) source.now)) }
 {
-    read_opened(alloc, source, at, Opener::Bracket, room)
+    read_opened(whole, source, at, Opener::Bracket, room)
 }
 
 /// What a `$` at a place begins, and how many bytes behind the place are read; nothing where it stands for itself (Tcl(n), "Variable
 /// substitution"). `room` is how many brackets and indices may be opened in one another. `MissingBrace` (5) where a name in braces never
 /// ends; of an index `TooLong` (4) where there is no room, else the first fault of what stands in it (4 to 10), or `MissingParen` (10).
-/// The source has at most 65,536 bytes, an ASCII byte stands at the place, and the room is at most 200.
+/// The source has at most 65,536 bytes, an ASCII byte stands at the place, and the room is at most 200. Parts share the memory of `whole`,
+/// where that is the source.
 pub fn substitution_behind(
-    alloc: Global,
+    whole: &SourceText,
     source: &str,
     at: usize,
     room: usize,
@@ -100,15 +108,15 @@ pub fn substitution_behind(
     match dollar_at(source, at) {
         Dollar::Alone => Ok(None),
         Dollar::Named(count) => {
-            let name = text_of(alloc, source, start, start + count)?;
+            let name = text_of(whole.alloc(), source, start, start + count)?;
             Ok(Some((Piece::Variable(name), count)))
         }
         Dollar::Indexed(count) => {
-            let found = read_opened(alloc, source, at, Opener::Index(count), room)?;
+            let found = read_opened(whole, source, at, Opener::Index(count), room)?;
             Ok(Some(found))
         }
         Dollar::Braced(count) => {
-            let name = text_of(alloc, source, start + 1, start + 1 + count)?;
+            let name = text_of(whole.alloc(), source, start + 1, start + 1 + count)?;
             Ok(Some((Piece::Variable(name), count + 2)))
         }
         Dollar::Unclosed => Err(ParseFault::MissingBrace),
@@ -118,7 +126,7 @@ pub fn substitution_behind(
 /// A byte in quotes that doesn't end them, with what it opens; the place past both.
 fn read_quoted(
     parts: &mut Open,
-    alloc: Global,
+    whole: &SourceText,
     source: &str,
     at: usize,
     byte: u8,
@@ -133,10 +141,10 @@ fn read_quoted(
     ensures ok { IfOk result (λ next. ReadsOn room source.now parts.old at parts.new next) }
     ensures fault { IfErr result (λ fault. (quoted_rest room (drop at source.now) 0 at ≡ Err fault) ⊎ (fault ≡ ParseFault.NoMemory)) }
 {
-    match read_text(parts, alloc, source, at, byte, kind, Mode::Parens)? {
+    match read_text(parts, whole.alloc(), source, at, byte, kind, Mode::Parens)? {
         Step::On(skip, _) => Ok(at + 1 + skip),
         Step::Within(opener, _) => {
-            let (piece, taken) = read_opened(alloc, source, at, opener, room)?;
+            let (piece, taken) = read_opened(whole, source, at, opener, room)?;
             let next = at + 1 + taken;
             parts.push_piece(piece, next)?;
             Ok(next)
@@ -148,22 +156,23 @@ fn read_quoted(
 /// The pieces between a quote at a place and the next one, where so many brackets and indices may be opened in one another,
 /// and how many bytes behind the place are read with the quote that ends them (Tcl(n), "Double quotes"). The first fault of what
 /// stands in them is told (4 to 10), as `TooLong` (4) where there is no room; else `MissingQuote` (7) where no quote ends them.
-/// The source has at most 65,536 bytes, an ASCII byte stands at the place, and the room is at most 200.
-pub fn quotes_behind(alloc: Global, source: &str, at: usize, room: usize) -> Found<Pieces>
+/// The source has at most 65,536 bytes, an ASCII byte stands at the place, and the room is at most 200. Parts share the memory of `whole`,
+/// where that is the source.
+pub fn quotes_behind(whole: &SourceText, source: &str, at: usize, room: usize) -> Found<Pieces>
     requires { MayOpen room source.now at }
     ensures { IsReadAs result (quoted_of room (drop (at + 1) source.now)) }
 {
     let text = &source[at + 1..];
-    let mut parts = Open::new(alloc, 0);
+    let mut parts = Open::new(whole.alloc(), 0);
     let mut next = 0;
     while next < text.len() {
         let (byte, kind) = look(text, next, false);
         match kind {
             Kind::Quote => {
-                parts.end_literal(alloc, text, next)?;
-                return Ok((parts.into_pieces(alloc), next + 1));
+                parts.end_literal(whole.alloc(), text, next)?;
+                return Ok((parts.into_pieces(whole.alloc()), next + 1));
             }
-            _ => next = read_quoted(&mut parts, alloc, text, next, byte, kind, room)?,
+            _ => next = read_quoted(&mut parts, whole, text, next, byte, kind, room)?,
         }
     }
     Err(ParseFault::MissingQuote)

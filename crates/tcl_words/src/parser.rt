@@ -5,8 +5,9 @@ ghost use Rattle.tcl_words.specs.declared.script.Command.{Command};
 
 use crate::reader::read_all;
 use crate::script::Script;
+use crate::source::SourceText;
 use std::alloc::Global;
-use tcl_text::{MAX_BYTES, ParseFault, Text};
+use tcl_text::{MAX_BYTES, ParseFault};
 
 /// The script that the bytes spell, by the function that reads its commands.
 fn read_script(alloc: Global, source: &[u8]) -> Result<Script, ParseFault>
@@ -20,8 +21,9 @@ fn read_script(alloc: Global, source: &[u8]) -> Result<Script, ParseFault>
     let Ok(text) = str::from_utf8(source) else {
         return Err(ParseFault::TooLong);
     };
-    let commands = read_all(alloc, text)?;
-    let text = Text::of_short(alloc, text)?;
+    let whole = SourceText::new(alloc, text)?;
+    let commands = read_all(&whole, text)?;
+    let text = whole.excerpt()?;
     Ok(Script::new(alloc, text, commands)?)
 }
 

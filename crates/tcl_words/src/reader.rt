@@ -9,9 +9,10 @@ ghost use Rattle.tcl_text.specs.Limits.{most_bytes};
 
 use crate::kind::{BytePlace, Mode, Opener, Step};
 use crate::nesting::{Origin, Reader, Waiting};
-use crate::open::{Open, text_of};
+use crate::open::Open;
 use crate::read::{finish, read_byte, unfinished};
 use crate::script::{Command, Index, Piece, Script};
+use crate::source::{SourceText, name_of, part_of};
 use std::alloc::Global;
 use std::mem;
 use tcl_text::ParseFault;
@@ -54,7 +55,7 @@ pub fn opened(origin: Origin, at: usize, opener: Opener) -> Origin
 
 /// The piece whose opener stands at a place of the source, and that ends so many bytes behind it.
 pub fn piece_of(
-    alloc: Global,
+    whole: &SourceText,
     source: &str,
     at: usize,
     close: usize,
@@ -71,14 +72,14 @@ pub fn piece_of(
     let base = at + 1;
     match opener {
         Opener::Bracket => {
-            let text = text_of(alloc, source, base, base + close)?;
-            let script = Script::new(alloc, text, parts.into_commands())?;
+            let text = part_of(whole, source, base, base + close)?;
+            let script = Script::new(whole.alloc(), text, parts.into_commands())?;
             Ok(Piece::Bracket(script))
         }
         Opener::Index(count) => {
-            let name = text_of(alloc, source, base, base + count)?;
-            let text = text_of(alloc, source, base + count + 1, base + close)?;
-            let index = Index::new(alloc, text, parts.into_pieces(alloc))?;
+            let name = name_of(whole, source, base, base + count)?;
+            let text = part_of(whole, source, base + count + 1, base + close)?;
+            let index = Index::new(whole.alloc(), text, parts.into_pieces(whole.alloc()))?;
             Ok(Piece::Element(name, index))
         }
     }
@@ -107,7 +108,7 @@ impl Reader {
     /// A bracket or a parenthesis opens at the next byte.
     fn open_within(
         &mut self,
-        alloc: Global,
+        whole: &SourceText,
         source: &str,
         opener: Opener,
         mode: Mode,
@@ -123,7 +124,7 @@ impl Reader {
             return Err(ParseFault::TooLong);
         }
         let origin = opened(self.origin, self.next, opener);
-        let parts = mem::replace(&mut self.parts, Open::new(alloc, origin.skip));
+        let parts = mem::replace(&mut self.parts, Open::new(whole.alloc(), origin.skip));
         self.waiting.push(Waiting {
             origin: self.origin,
             parts,
@@ -138,7 +139,7 @@ impl Reader {
     }
 
     /// What is open ends at the next byte, and what waits for it goes on.
-    fn end_within(&mut self, alloc: Global, source: &str) -> Result<(), ParseFault>
+    fn end_within(&mut self, whole: &SourceText, source: &str) -> Result<(), ParseFault>
         requires short { length source.now ≤ most_bytes }
         requires waits { 0 < length self.old.waiting.items }
         requires ending { IsClosing self.old.first source.now self.old.waiting.items self.old.origin self.old.parts self.old.place self.old.next }
@@ -153,7 +154,7 @@ impl Reader {
         let close = self.next;
         let at = waiting.origin.base + waiting.at;
         let inner = mem::replace(&mut self.parts, waiting.parts);
-        let piece = piece_of(alloc, source, at, close, waiting.opener, inner)?;
+        let piece = piece_of(whole, source, at, close, waiting.opener, inner)?;
         let next = waiting.at + 1 + close + 1;
         self.parts.push_piece(piece, next)?;
         self.origin = waiting.origin;
@@ -163,7 +164,7 @@ impl Reader {
     }
 
     /// The next byte, and whether what began first has ended there.
-    pub fn read_next(&mut self, alloc: Global, source: &str) -> Result<bool, ParseFault>
+    pub fn read_next(&mut self, whole: &SourceText, source: &str) -> Result<bool, ParseFault>
         requires short { length source.now ≤ most_bytes }
         requires reading { IsReading self.old.first source.now self.old.waiting.items self.old.origin self.old.parts self.old.place self.old.next }
         requires within { self.old.origin.base + self.old.next < length source.now }
@@ -174,7 +175,14 @@ impl Reader {
     {
         let text = &source[self.origin.base..];
         let inside = self.origin.inside;
-        let step = read_byte(&mut self.parts, alloc, text, self.next, inside, self.place)?;
+        let step = read_byte(
+            &mut self.parts,
+            whole.alloc(),
+            text,
+            self.next,
+            inside,
+            self.place,
+        )?;
         match step {
             Step::On(skip, place) => {
                 self.next = self.next + 1 + skip;
@@ -182,21 +190,21 @@ impl Reader {
                 Ok(false)
             }
             Step::Within(opener, mode) => {
-                self.open_within(alloc, source, opener, mode)?;
+                self.open_within(whole, source, opener, mode)?;
                 Ok(false)
             }
             Step::Ends => {
                 if self.waiting.is_empty() {
                     return Ok(true);
                 }
-                self.end_within(alloc, source)?;
+                self.end_within(whole, source)?;
                 Ok(false)
             }
         }
     }
 
     /// The source ends.
-    fn finish(mut self, alloc: Global, source: &str) -> Result<Vec<Command>, ParseFault>
+    fn finish(mut self, whole: &SourceText, source: &str) -> Result<Vec<Command>, ParseFault>
         requires short { length source.now ≤ most_bytes }
         requires reading { IsReading outset source.now self.waiting.items self.origin self.parts self.place self.next }
         requires end { length source.now ≤ self.origin.base + self.next }
@@ -207,23 +215,23 @@ impl Reader {
         if self.origin.inside {
             return Err(unfinished(self.place));
         }
-        finish(&mut self.parts, alloc, source, self.place)?;
+        finish(&mut self.parts, whole.alloc(), source, self.place)?;
         Ok(self.parts.into_commands())
     }
 }
 
 /// The commands of a text, in one pass over its bytes.
-pub fn read_all(alloc: Global, source: &str) -> Result<Vec<Command>, ParseFault>
+pub fn read_all(whole: &SourceText, source: &str) -> Result<Vec<Command>, ParseFault>
     requires { length source.now ≤ most_bytes }
     ensures commands { IfOk result (λ commands. commands_in (rest_of source.now outermost_level 0 BytePlace.Start 0) ≡ Ok commands.items) }
     ensures fault { IfErr result (λ fault. (commands_in (rest_of source.now outermost_level 0 BytePlace.Start 0) ≡ Err fault) ⊎ (fault ≡ ParseFault.NoMemory)) }
 {
-    let mut reader = Reader::new(alloc, outermost());
+    let mut reader = Reader::new(whole.alloc(), outermost());
     while reader.origin.base + reader.next < source.len() {
-        if reader.read_next(alloc, source)? {
+        if reader.read_next(whole, source)? {
             // A whole script ends with its text alone.
             unreachable!()
         }
     }
-    reader.finish(alloc, source)
+    reader.finish(whole, source)
 }

@@ -1,5 +1,6 @@
 ghost use Rattle.std.specs.Prelude.{◌≡◌, ◌⊎◌, [], length, IfOk, IfErr, IsOk};
 
+use crate::source::Excerpt;
 use crate::span::Span;
 use crate::taking::{take_all, take_only};
 use std::alloc::{AllocError, Global};
@@ -19,23 +20,83 @@ pub enum WordForm {
     Bare,
 }
 
-/// A command. Its span goes from its first word's first byte up to its last word's end.
-#[derive(Drop)]
-#[cycle(script)]
-pub struct Command {
-    pub span: Span,
-    pub words: Words,
+/// How a word is written, and whether `{*}` stands before it.
+#[derive(Clone, Copy, Drop)]
+enum Look {
+    Braced,
+    Quoted,
+    Bare,
+    ExpandedBraced,
+    ExpandedQuoted,
+    ExpandedBare,
 }
 
-/// A word. Its value is its pieces' values, one after another; `expand` says that the value is a list whose
-/// elements are words, as `{*}` asks for. The span has the braces, the quotes and the `{*}` too.
+/// How a word is kept: most often it has one piece, which takes no memory of its own.
+#[derive(Drop)]
+#[cycle(script)]
+enum WordLayout {
+    One(Look, Span, Piece),
+    /// Any others, in as much memory as they take.
+    Many(Look, Span, Vec<Piece>),
+}
+
+/// A word. Its value is its pieces' values, one after another. Contracts see its form, its expansion, its span and its pieces.
 #[derive(Drop)]
 #[cycle(script)]
 pub struct Word {
-    pub form: WordForm,
-    pub expand: bool,
-    pub span: Span,
-    pub pieces: Pieces,
+    layout: WordLayout,
+}
+
+impl Model for Word {
+    ghost use Rattle.tcl_words.specs.Parsed.{ParsedWord};
+
+    ghost Value = { ParsedWord };
+
+    ghost use Rattle.tcl_words.specs.Lists.{word_kept};
+
+    ghost view = { λ w. word_kept w.layout };
+
+    ghost use Rattle.tcl_words.specs.Room.{word_room};
+
+    ghost size = { word_room };
+
+    ghost use Rattle.tcl_words.specs.Falls.{word_falls};
+
+    ghost size_decreases = { λ a h. word_falls a };
+}
+
+/// How a command is kept: a command of one word takes no memory for a list.
+#[derive(Drop)]
+#[cycle(script)]
+enum CommandLayout {
+    One(Span, Word),
+    /// Any others, in as much memory as they take.
+    Many(Span, Vec<Word>),
+}
+
+/// A command. Contracts see its span and its words.
+#[derive(Drop)]
+#[cycle(script)]
+pub struct Command {
+    layout: CommandLayout,
+}
+
+impl Model for Command {
+    ghost use Rattle.tcl_words.specs.Parsed.{ParsedCommand};
+
+    ghost Value = { ParsedCommand };
+
+    ghost use Rattle.tcl_words.specs.Lists.{command_kept};
+
+    ghost view = { λ c. command_kept c.layout };
+
+    ghost use Rattle.tcl_words.specs.Room.{command_room};
+
+    ghost size = { command_room };
+
+    ghost use Rattle.tcl_words.specs.Falls.{command_falls};
+
+    ghost size_decreases = { λ a h. command_falls a };
 }
 
 /// A part of a word or of an index.
@@ -47,44 +108,9 @@ pub enum Piece {
     /// The value of the variable of this name.
     Variable(Text),
     /// The value of an element: the array's name, and the index that gives the key.
-    Element(Text, Index),
+    Element(Excerpt, Index),
     /// The result of a script in brackets.
     Bracket(Script),
-}
-
-/// How words are kept: most often there is one, which takes no memory of its own.
-#[derive(Drop)]
-#[cycle(script)]
-enum WordList {
-    One(Word),
-    /// Any others, in as much memory as they take.
-    Many(Vec<Word>),
-}
-
-/// Words in order.
-#[derive(Drop)]
-#[cycle(script)]
-pub struct Words {
-    list: WordList,
-}
-
-impl Model for Words {
-    ghost use Rattle.std.specs.Prelude.{ℕ, List};
-    ghost use Rattle.tcl_words.specs.declared.script.Word.{Word};
-
-    ghost Value = { List Word };
-
-    ghost use Rattle.tcl_words.specs.Lists.{word_items};
-
-    ghost view = { λ w. word_items w.list };
-
-    ghost use Rattle.tcl_words.specs.Room.{words_room};
-
-    ghost size = { words_room };
-
-    ghost use Rattle.tcl_words.specs.Falls.{words_fall};
-
-    ghost size_decreases = { λ a h. words_fall a };
 }
 
 /// How pieces are kept: most often there is one, which takes no memory of its own.
@@ -122,15 +148,6 @@ impl Model for Pieces {
     ghost size_decreases = { λ a h. pieces_fall a };
 }
 
-/// How commands are kept: most often there is one, which takes no memory of its own.
-#[derive(Drop)]
-#[cycle(script)]
-enum CommandList {
-    One(Command),
-    /// Any others, in as much memory as they take.
-    Many(Vec<Command>),
-}
-
 /// What stands between the parentheses of `$name(index)`, read and shared by its copies. Contracts see its source, of which
 /// the pieces are the parse.
 #[derive(Drop)]
@@ -142,7 +159,7 @@ pub struct Index {
 #[derive(Drop)]
 #[cycle(script)]
 struct ParsedIndex {
-    text: Text,
+    text: Excerpt,
     pieces: Pieces,
 }
 
@@ -167,18 +184,22 @@ impl Model for Index {
     ghost size_decreases = { λ a h. index_falls a h.1 };
 }
 
+/// How commands are kept, for the copies of a script to share: none take no memory, and one takes none for a list.
+#[derive(Drop)]
+#[cycle(script)]
+enum CommandList {
+    Empty,
+    One(Rc<Command>),
+    /// More, in as much memory as they take.
+    Many(Rc<Vec<Command>>),
+}
+
 /// A script, read and shared by its copies. Contracts see its source alone, of which the commands are the parse:
 /// the script in a bracket is as its text, also where that text is read by itself.
 #[derive(Drop)]
 #[cycle(script)]
 pub struct Script {
-    parsed: Rc<Parsed>,
-}
-
-#[derive(Drop)]
-#[cycle(script)]
-struct Parsed {
-    text: Text,
+    text: Excerpt,
     commands: CommandList,
 }
 
@@ -187,7 +208,7 @@ impl Model for Script {
 
     ghost Value = { List ℕ };
 
-    ghost view = { λ s. s.parsed.value.text };
+    ghost view = { λ s. s.text };
 
     ghost use Rattle.std.specs.Prelude.{◌≡◌, ◌≤◌, Ok};
     ghost use Rattle.tcl_words.specs.Reading.{commands_of};
@@ -195,8 +216,7 @@ impl Model for Script {
     ghost use Rattle.tcl_words.specs.Room.{text_room, commands_room};
 
     ghost invariant = { λ s.
-        (commands_of s.parsed.value.text ≡ Ok (command_items s.parsed.value.commands))
-        × (commands_room (command_items s.parsed.value.commands) ≤ text_room s.parsed.value.text) };
+        (commands_of s.text ≡ Ok (command_items s.commands)) × (commands_room (command_items s.commands) ≤ text_room s.text) };
 
     ghost size = { text_room };
 
@@ -205,26 +225,150 @@ impl Model for Script {
     ghost size_decreases = { λ a h. script_falls a h.1 };
 }
 
-impl Words {
-    /// These words, of which none are left.
-    pub(crate) fn taken(alloc: Global, words: &mut Vec<Word>) -> Words
-        ensures words { result ≡ words.old.items }
-        ensures none_left { words.new.items ≡ [] }
+impl Look {
+    ghost use Rattle.std.specs.Prelude.{◌≡◌};
+    ghost use Rattle.tcl_words.specs.Lists.{form_of, expands};
+
+    /// Of this form, with `{*}` or not.
+    fn new(form: WordForm, expand: bool) -> Look
+        ensures form { form_of result ≡ form }
+        ensures expand { expands result ≡ expand }
     {
-        let list = match take_only(words) {
-            Some(word) => WordList::One(word),
-            None => WordList::Many(take_all(alloc, words)),
-        };
-        Words { list }
+        match (form, expand) {
+            (WordForm::Braced, false) => Look::Braced,
+            (WordForm::Quoted, false) => Look::Quoted,
+            (WordForm::Bare, false) => Look::Bare,
+            (WordForm::Braced, true) => Look::ExpandedBraced,
+            (WordForm::Quoted, true) => Look::ExpandedQuoted,
+            (WordForm::Bare, true) => Look::ExpandedBare,
+        }
     }
 
-    /// The words, in order.
-    pub fn as_slice(&self) -> &[Word]
-        ensures { result.now ≡ self.now }
+    /// How the word is written.
+    fn form(self) -> WordForm
+        ensures { result ≡ form_of self }
     {
-        match &self.list {
-            WordList::One(word) => slice::from_ref(word),
-            WordList::Many(words) => words.as_slice(),
+        match self {
+            Look::Braced | Look::ExpandedBraced => WordForm::Braced,
+            Look::Quoted | Look::ExpandedQuoted => WordForm::Quoted,
+            Look::Bare | Look::ExpandedBare => WordForm::Bare,
+        }
+    }
+
+    /// Whether `{*}` stands before it.
+    fn expands(self) -> bool
+        ensures { result ≡ expands self }
+    {
+        match self {
+            Look::Braced | Look::Quoted | Look::Bare => false,
+            Look::ExpandedBraced | Look::ExpandedQuoted | Look::ExpandedBare => true,
+        }
+    }
+}
+
+impl Word {
+    ghost use Rattle.std.specs.Prelude.{◌≡◌, []};
+
+    /// A word of these pieces, of which none are left.
+    pub(crate) fn taken(
+        alloc: Global,
+        form: WordForm,
+        expand: bool,
+        span: Span,
+        pieces: &mut Vec<Piece>,
+    ) -> Word
+        ensures word { result ≡ record { form = form; expand = expand; span = span; pieces = pieces.old.items } }
+        ensures none_left { pieces.new.items ≡ [] }
+    {
+        let look = Look::new(form, expand);
+        match take_only(pieces) {
+            Some(piece) => Word {
+                layout: WordLayout::One(look, span, piece),
+            },
+            None => {
+                let all = take_all(alloc, pieces);
+                Word {
+                    layout: WordLayout::Many(look, span, all),
+                }
+            }
+        }
+    }
+
+    /// How it is written.
+    pub fn form(&self) -> WordForm
+        ensures { result ≡ self.now.form }
+    {
+        match &self.layout {
+            WordLayout::One(look, _, _) | WordLayout::Many(look, _, _) => look.form(),
+        }
+    }
+
+    /// Whether its value is a list whose elements are words, as `{*}` asks for.
+    pub fn expand(&self) -> bool
+        ensures { result ≡ self.now.expand }
+    {
+        match &self.layout {
+            WordLayout::One(look, _, _) | WordLayout::Many(look, _, _) => look.expands(),
+        }
+    }
+
+    /// Where it stands, with the braces, the quotes and the `{*}`.
+    pub fn span(&self) -> &Span
+        ensures { result.now ≡ self.now.span }
+    {
+        match &self.layout {
+            WordLayout::One(_, span, _) | WordLayout::Many(_, span, _) => span,
+        }
+    }
+
+    /// The pieces of which it is made, in order.
+    pub fn pieces(&self) -> &[Piece]
+        ensures { result.now ≡ self.now.pieces }
+    {
+        match &self.layout {
+            WordLayout::One(_, _, piece) => slice::from_ref(piece),
+            WordLayout::Many(_, _, pieces) => pieces.as_slice(),
+        }
+    }
+}
+
+impl Command {
+    ghost use Rattle.std.specs.Prelude.{◌≡◌, []};
+
+    /// A command of these words, of which none are left.
+    pub(crate) fn taken(alloc: Global, span: Span, words: &mut Vec<Word>) -> Command
+        ensures command { result ≡ record { span = span; words = words.old.items } }
+        ensures none_left { words.new.items ≡ [] }
+    {
+        match take_only(words) {
+            Some(word) => Command {
+                layout: CommandLayout::One(span, word),
+            },
+            None => {
+                let all = take_all(alloc, words);
+                Command {
+                    layout: CommandLayout::Many(span, all),
+                }
+            }
+        }
+    }
+
+    /// Where it stands, from its first word's first byte up to its last word's end.
+    pub fn span(&self) -> &Span
+        ensures { result.now ≡ self.now.span }
+    {
+        match &self.layout {
+            CommandLayout::One(span, _) | CommandLayout::Many(span, _) => span,
+        }
+    }
+
+    /// Its words, in order.
+    pub fn words(&self) -> &[Word]
+        ensures { result.now ≡ self.now.words }
+    {
+        match &self.layout {
+            CommandLayout::One(_, word) => slice::from_ref(word),
+            CommandLayout::Many(_, words) => words.as_slice(),
         }
     }
 }
@@ -254,18 +398,21 @@ impl Pieces {
 }
 
 impl CommandList {
-    ghost use Rattle.std.specs.Prelude.{◌≡◌};
+    ghost use Rattle.std.specs.Prelude.{◌≡◌, IfOk};
     ghost use Rattle.tcl_words.specs.Lists.{command_items};
 
     /// These commands.
-    fn of(mut commands: Vec<Command>) -> CommandList
-        ensures { command_items result ≡ commands.items }
+    fn new(alloc: Global, mut commands: Vec<Command>) -> Result<CommandList, AllocError>
+        ensures { IfOk result (λ list. command_items list ≡ commands.items) }
     {
         match take_only(&mut commands) {
-            Some(command) => CommandList::One(command),
+            Some(command) => Ok(CommandList::One(Rc::new(alloc, command)?)),
             None => {
+                if commands.is_empty() {
+                    return Ok(CommandList::Empty);
+                }
                 commands.shrink_to_fit();
-                CommandList::Many(commands)
+                Ok(CommandList::Many(Rc::new(alloc, commands)?))
             }
         }
     }
@@ -275,8 +422,20 @@ impl CommandList {
         ensures { result.now ≡ command_items self.now }
     {
         match self {
-            CommandList::One(command) => slice::from_ref(command),
-            CommandList::Many(commands) => commands.as_slice(),
+            CommandList::Empty => &[],
+            CommandList::One(command) => slice::from_ref(command.as_ref()),
+            CommandList::Many(commands) => commands.as_ref().as_slice(),
+        }
+    }
+
+    /// The same, shared.
+    fn copy(&self) -> Result<CommandList, AllocError>
+        ensures { IfOk result (λ list. command_items list ≡ command_items self.now) }
+    {
+        match self {
+            CommandList::Empty => Ok(CommandList::Empty),
+            CommandList::One(command) => Ok(CommandList::One(command.clone()?)),
+            CommandList::Many(commands) => Ok(CommandList::Many(commands.clone()?)),
         }
     }
 }
@@ -294,30 +453,28 @@ impl Script {
         ensures only { (commands : List Command) → IsScriptOf self.now commands → commands ≡ result.now }
         ensures walk { commands_of self.now ≡ Ok result.now }
     {
-        self.parsed.commands.as_slice()
+        self.commands.as_slice()
     }
 
     /// The source.
-    pub fn text(&self) -> &Text
+    pub fn text(&self) -> &Excerpt
         ensures { result.now ≡ self.now }
     {
-        &self.parsed.text
+        &self.text
     }
 
     /// A script of this text, of which these are the commands.
     #[tactic(auto, using(crate::proofs::Texts::commands_of_fit))]
     pub(crate) fn new(
         alloc: Global,
-        text: Text,
+        text: Excerpt,
         commands: Vec<Command>,
     ) -> Result<Script, AllocError>
         requires { commands_of text ≡ Ok commands.items }
         ensures { IfOk result (λ script. script ≡ text) }
     {
-        let commands = CommandList::of(commands);
-        Ok(Script {
-            parsed: Rc::new(alloc, Parsed { text, commands })?,
-        })
+        let commands = CommandList::new(alloc, commands)?;
+        Ok(Script { text, commands })
     }
 
     /// The same script, shared. It takes no memory; it is refused only where the count of its copies is full.
@@ -325,7 +482,8 @@ impl Script {
         ensures ok { IfOk result (λ script. script ≡ self.now) }
     {
         Ok(Script {
-            parsed: self.parsed.clone()?,
+            text: self.text.copy()?,
+            commands: self.commands.copy()?,
         })
     }
 }
@@ -337,7 +495,7 @@ impl Index {
     ghost use Rattle.tcl_words.specs.declared.script.Piece.{Piece};
 
     /// The source, that is what stands between the parentheses.
-    pub fn text(&self) -> &Text
+    pub fn text(&self) -> &Excerpt
         ensures { result.now ≡ self.now }
     {
         &self.parsed.text
@@ -355,7 +513,7 @@ impl Index {
 
     /// An index of this text, of which these are the pieces.
     #[tactic(auto, using(crate::proofs::Rooms::pieces_fit))]
-    pub(crate) fn new(alloc: Global, text: Text, pieces: Pieces) -> Result<Index, AllocError>
+    pub(crate) fn new(alloc: Global, text: Excerpt, pieces: Pieces) -> Result<Index, AllocError>
         requires { index_pieces_of text ≡ Ok pieces }
         ensures { IfOk result (λ index. index ≡ text) }
     {

@@ -69,9 +69,9 @@ fn push_pieces(text: &mut String, alloc: Global, depth: u32, pieces: &[Piece]) -
 #[cycle(shown)]
 fn push_word(words: &mut Vec<Text>, alloc: Global, depth: u32, word: &Word) -> Result<()> {
     let mut text = String::new(alloc);
-    push_pieces(&mut text, alloc, depth, word.pieces.as_slice())?;
+    push_pieces(&mut text, alloc, depth, word.pieces())?;
     let value = Text::new(alloc, text.as_str())?;
-    if !word.expand {
+    if !word.expand() {
         words.push(value)?;
         return Ok(());
     }
@@ -85,7 +85,7 @@ fn push_word(words: &mut Vec<Text>, alloc: Global, depth: u32, word: &Word) -> R
 #[cycle(shown)]
 fn words_of(alloc: Global, depth: u32, command: &Command) -> Result<Vec<Text>> {
     let mut words = Vec::new(alloc);
-    for word in command.words.as_slice() {
+    for word in command.words() {
         push_word(&mut words, alloc, depth, word)?;
     }
     Ok(words)

@@ -68,7 +68,7 @@ script_value-returns-in-Some-value-clause-gives g n c =
     let only = c.command-item.result in
     let text = c.in-Some-value.text in
     let parsed : script_of c.args.script.now ≡ Ok (only ∷ []) = only_command (script_of c.args.script.now) c.commands.result.now only c.commands.ensures c.in-len1.len_at_least (omega (arith, c.in-len1.len_below)) c.command-item.is in
-    let own : ExprGives store context c.args.level only.words text = rw (c.in-Some-value.is, c.as_slice-words.ensures) at c.in_ok-value-in-Some-Builtin-Expr.ensures in
+    let own : ExprGives store context c.args.level only.words text = rw (c.in-Some-value.is, c.words-words.ensures) at c.in_ok-value-in-Some-Builtin-Expr.ensures in
     expr_gives g.T.Tasks.outside c.args.room c.args.level store context c.args.script.now only own.0 own.1 text c.requires.room parsed own.2 own.3 own.4 own.5 own.6 own.7 c.requires.level own.8
 
 pub script_value-returns-in-Some-Texts-clause-gives : goal.script_value-returns-in-Some-Texts-clause-gives
@@ -79,7 +79,7 @@ script_value-returns-in-Some-Texts-clause-gives g n c =
     let only = c.command-item.result in
     let parsed : script_of c.args.script.now ≡ Ok (only ∷ []) = only_command (script_of c.args.script.now) c.commands.result.now only c.commands.ensures c.in-len1.len_at_least (omega (arith, c.in-len1.len_below)) c.command-item.is in
     IfOk-weaker c.text_worth.result _ _ (λ found ends.
-    found_gives outside c.args.room (c.args.room - 1) store context c.args.script.now only c.as_slice-words.result.now found (omega (arith, c.requires.room)) parsed c.as_slice-words.ensures ends) c.text_worth.ensures.ends
+    found_gives outside c.args.room (c.args.room - 1) store context c.args.script.now only c.words-words.result.now found (omega (arith, c.requires.room)) parsed c.words-words.ensures ends) c.text_worth.ensures.ends
 
 pub text_worth-returns-in-Normal-clause-ends : goal.text_worth-returns-in-Normal-clause-ends
 text_worth-returns-in-Normal-clause-ends g n c =
@@ -102,7 +102,7 @@ script_value-returns-in-Some-Builtin-Info-clause-gives g n c =
     let only = c.command-item.result in
     let parsed : script_of c.args.script.now ≡ Ok (only ∷ []) = only_command (script_of c.args.script.now) c.commands.result.now only c.commands.ensures c.in-len1.len_at_least (omega (arith, c.in-len1.len_below)) c.command-item.is in
     IfOk-weaker c.info_worth.result _ _ (λ found ends.
-    found_gives outside c.args.room (c.args.room - 1) store context c.args.script.now only c.as_slice-words.result.now found (omega (arith, c.requires.room)) parsed c.as_slice-words.ensures ends) c.info_worth.ensures.ends
+    found_gives outside c.args.room (c.args.room - 1) store context c.args.script.now only c.words-words.result.now found (omega (arith, c.requires.room)) parsed c.words-words.ensures ends) c.info_worth.ensures.ends
 
 pub info_worth-returns-in-Normal-clause-ends : goal.info_worth-returns-in-Normal-clause-ends
 info_worth-returns-in-Normal-clause-ends g n c =

@@ -1,15 +1,19 @@
-use Rattle.std.proofs.Common.{◌≡◌, ◌<◌, ◌≤◌, ◌+◌, ◌-◌, ℕ, List, [], ◌∷◌, drop, length, ap, sym, subst, ◌∙◌, arith}
+use Rattle.std.proofs.Common.{◌≡◌, ◌<◌, ◌≤◌, ◌+◌, ◌-◌, ℕ, List, [], ◌∷◌, ◌++◌, drop, length, IsOk, ap, sym, subst, ◌∙◌, arith}
 use Rattle.std.proofs.lemmas.Result.{IfOk-weaker}
 use Rattle.tcl_control.specs.declared.code.Code.TheVariants.{Normal}
+use Rattle.tcl_control.specs.declared.plan.Plan.TheVariants as plan
+use Rattle.tcl_control.specs.Choices.{switch_plan}
+use Rattle.tcl_table.specs.Source.{script_of}
 use Rattle.tcl_interp.specs.declared.chosen.Chosen.TheVariants as chosen
 use Rattle.tcl_interp.specs.declared.reach.Past.TheVariants as past
 use Rattle.tcl_interp.specs.Finish.{ForCommand, GoesOn, Waiting}
 use Rattle.tcl_interp.specs.Moves.{after_command, moved, standing}
 use Rattle.tcl_interp.specs.Rests.{commands_in}
+use Rattle.tcl_interp.specs.Simple.{WordsLead}
 use Rattle.tcl_interp.specs.Steps.{TakesSteps}
 use Rattle.tcl_interp.specs.Whole.{Chooses, came_to, past_to, reached_to, stopped_in}
 use Rattle.tcl_interp.proofs.OnwardLemmas.{steps_lead}
-use Rattle.tcl_interp.proofs.WholeLemmas.{goes_past, if_begins, if_ends, if_through, passed_goes}
+use Rattle.tcl_interp.proofs.WholeLemmas.{goes_past, if_begins, if_ends, if_through, passed_goes, switch_begins, switch_ends}
 use Rattle.tcl_interp.proofs.whole.+scripts.Goals as goal
 
 pub run_body-returns-in-Whole-clause-ok : goal.run_body-returns-in-Whole-clause-ok
@@ -85,6 +89,35 @@ run_if-returns-in_ok-past-in-Body-clause-ok g t c = λ previous waits shows.
     let chooses : Chooses outside c.args.room store context words steps (chosen.Body body) = rw (c.in-Some.is, c.in-Body.is) at c.in_ok-found.ensures.chooses in
     if_begins outside c.args.room (commands_in c.args.script.now) c.args.place previous c.args.name.now body steps waits shows store context words c.run_body.new.scopes passed.steps passed.past
     c.if-room-gt0.true c.requires.words c.requires.name c.requires.calls chooses (c.in_ok-past-in-Body.ensures.ok previous waits shows)
+
+pub run_switch-returns-in-Ends-clause-ok : goal.run_switch-returns-in-Ends-clause-ok
+run_switch-returns-in-Ends-clause-ok g t c = λ previous waits shows.
+    let outside = g.T.Tasks.outside in
+    let store = c.args.scopes.now in
+    let context = c.args.context.now in
+    let words = c.args.words.now in
+    let name = c.args.name.now in
+    let found = c.in-Some.found in
+    let ends = c.in-Ends in
+    let leads : (before : List (List ℕ)) → WordsLead outside c.args.room store context (drop 1 words) before found.steps [] (before ++ found.words) = rw c.in-Some.is at c.in_ok-found.ensures.leads in
+    let planned : switch_plan found.words ≡ plan.Ends ends.code ends.text = rw (ends.is, c.as_slice-arguments.ensures) at c.in_ok-done.ensures in
+    switch_ends outside c.args.room (commands_in c.args.script.now) c.args.place previous name found.words found.steps ends.code ends.text waits shows store context words
+    c.requires.words c.requires.name c.requires.calls (leads (name ∷ [])) planned
+
+pub run_switch-returns-in-Runs-clause-ok : goal.run_switch-returns-in-Runs-clause-ok
+run_switch-returns-in-Runs-clause-ok g t c = λ previous waits shows.
+    let outside = g.T.Tasks.outside in
+    let store = c.args.scopes.now in
+    let context = c.args.context.now in
+    let words = c.args.words.now in
+    let name = c.args.name.now in
+    let found = c.in-Some.found in
+    let body = c.in-Runs.body in
+    let passed = c.in_ok-past-in-Runs.field-0 in
+    let leads : (before : List (List ℕ)) → WordsLead outside c.args.room store context (drop 1 words) before found.steps [] (before ++ found.words) = rw c.in-Some.is at c.in_ok-found.ensures.leads in
+    let planned : (switch_plan found.words ≡ plan.Runs body) × IsOk (script_of body) = rw (c.in-Runs.is, c.as_slice-arguments.ensures) at c.in_ok-done.ensures in
+    switch_begins outside c.args.room (commands_in c.args.script.now) c.args.place previous name body found.words found.steps waits shows store context words c.run_body.new.scopes passed.steps passed.past
+    c.if-room-gt0.true c.requires.words c.requires.name c.requires.calls (leads (name ∷ [])) planned.0 planned.1 (c.in_ok-past-in-Runs.ensures.ok previous waits shows)
 
 pub run_whole-returns-in-Before-clause-ok : goal.run_whole-returns-in-Before-clause-ok
 run_whole-returns-in-Before-clause-ok g t c = λ waits shows.

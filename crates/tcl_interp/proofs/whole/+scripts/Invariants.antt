@@ -17,6 +17,9 @@ decreases-run_command g l = 5 * l.room + 2
 abbrev pub decreases-run_if : goal.decreases-run_if
 decreases-run_if g l = 5 * l.room + 1
 
+abbrev pub decreases-run_switch : goal.decreases-run_switch
+decreases-run_switch g l = 5 * l.room + 1
+
 abbrev pub decreases-run_body : goal.decreases-run_body
 decreases-run_body g l = 5 * l.room
 

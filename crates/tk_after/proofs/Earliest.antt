@@ -1,5 +1,5 @@
 -- The least of some due moments.
-use Rattle.std.proofs.Common.{◌≡◌, ℕ, ◌≤◌, suc, min, List, [], ◌∷◌, get_or, Option, Some, None, refl, sym, ap, subst, ◌⊎◌, inl, inr, arith}
+use Rattle.std.proofs.Common.{◌≡◌, ℕ, ◌≤◌, suc, min, List, [], ◌∷◌, get_or, Option, Some, None, refl, sym, ap, ◌∙◌, subst, ◌⊎◌, inl, inr, arith}
 use Rattle.std.specs.Prelude.{All, Contains, IfNone, IfSome, IsSomeAnd}
 use Rattle.std.proofs.lemmas.Bool.{cases_lt}
 use Rattle.std.proofs.lemmas.Option.{same_Some}
@@ -46,3 +46,22 @@ least_some-answer xs None is = tt
 least_some-answer xs (Some m) is =
     let P : Option ℕ → Type 0 = λ o. IfSome o (λ y. m ≤ y) in
     record { among = least_among xs m (sym is); least = above_least xs m (subst P is (omega arith)) }
+
+-- a number that is among them, and that none is below, is the least
+pub least_is : (xs : List ℕ) (m : ℕ) → IsLeastOf xs m → least xs ≡ Some m
+least_is xs m is = by (least xs) refl
+  where
+    at_most : (o : Option ℕ) (k : ℕ) → IsSomeAnd o (λ y. y ≤ k) → o ≡ None → ⊥
+    at_most None k below none = below
+    at_most (Some y) k below none = cc
+
+    within : (y : ℕ) → least xs ≡ Some y → y ≤ m
+    within y found = subst (λ (k : ℕ). y ≤ k) (get_or_default xs is.among.0 0 m is.among.1 ∙ is.among.2) (subst (λ (o : Option ℕ). IsSomeAnd o (λ v. v ≤ get_or xs is.among.0 0)) found (least_at_most xs is.among.0 is.among.1))
+
+    by : (o : Option ℕ) → least xs ≡ o → least xs ≡ Some m
+    by None none = absurd (at_most (least xs) (get_or xs is.among.0 0) (least_at_most xs is.among.0 is.among.1) none)
+    by (Some y) found =
+        let one : y ≤ m = within y found in
+        let among = least_among xs y found in
+        let other : m ≤ y = subst (λ (k : ℕ). m ≤ k) (get_or_default xs among.0 0 y among.1 ∙ among.2) (is.least among.0 0 among.1) in
+        found ∙ ap Some (omega (arith, one, other))

@@ -1,6 +1,6 @@
 -- The earliest due moment of all applications is that of the first timer.
-use Rattle.std.proofs.Common.{◌≡◌, ℕ, ◌<◌, ◌≤◌, suc, List, [], ◌∷◌, ◌++◌, map, length, Option, Some, None, refl, sym, ap, ◌∙◌, subst, ◌⊎◌, inl, inr, arith}
-use Rattle.std.specs.Prelude.{Contains, IfSome, slice_get}
+use Rattle.std.proofs.Common.{◌≡◌, ℕ, ◌<◌, ◌≤◌, suc, false, List, [], ◌∷◌, ◌++◌, map, length, Option, Some, None, refl, sym, ap, ◌∙◌, subst, ◌⊎◌, inl, inr, arith}
+use Rattle.std.specs.Prelude.{Contains, IfSome, is_none, slice_get}
 use Rattle.std.specs.BTreeMap.Range.{IsLeBy}
 use Rattle.std.specs.List.{AllByRecursion, cons_option}
 use Rattle.std.specs.Map.{keys_of}
@@ -12,7 +12,7 @@ use Rattle.tk_base.specs.declared.counter.Counter.{Counter}
 use Rattle.tk_after.specs.declared.waiting.WaitingScript.{WaitingScript}
 use Rattle.tk_after.specs.declared.keys.DueKey.{DueKey}
 use Rattle.tk_after.specs.Keys.{Stored, due_cmp, number_of, timer_item, idle_item, bag_of, entries_in, IsTimer, AreKeyed}
-use Rattle.tk_after.specs.Timers.{due_moments}
+use Rattle.tk_after.specs.Timers.{due_moments, idle_ids, IsLeastOf}
 use Rattle.tk_after.specs.Shared.{IsNextDue}
 use Rattle.tk_after.proofs.Bags.{has_timers, idle_due}
 use Rattle.tk_after.proofs.KeyOrders.{less_due}
@@ -58,6 +58,16 @@ from_first k owner e [] keyed later has = absurd has
 from_first k owner e (t ∷ ts) keyed later (inl same) = from_timer k.due t.0.due e.due (ap (λ (i : Item WaitingScript). i.value.due) (sym same) ∙ keyed.0.1) (less_due k t.0 later.0)
 from_first k owner e (t ∷ ts) keyed later (inr there) = from_first k owner e ts keyed.1 later.1 there
 
+-- a timer has a moment
+timer_due : (owner : ℕ) (e : WaitingScript) (ts : List (DueKey × WaitingScript)) → AllByRecursion IsTimer ts → Has (item owner e) (map timer_item ts) → is_none e.due ≡ false
+timer_due owner e [] keyed has = absurd has
+timer_due owner e (t ∷ ts) keyed (inl same) = ap is_none (ap (λ (i : Item WaitingScript). i.value.due) (sym same) ∙ keyed.0.1)
+timer_due owner e (t ∷ ts) keyed (inr there) = timer_due owner e ts keyed.1 there
+
+none_idle : (xs : List WaitingScript) → ((e : WaitingScript) → Has e xs → is_none e.due ≡ false) → idle_ids xs ≡ []
+none_idle [] timers = refl
+none_idle (x ∷ xs) timers = rw (timers x (inl refl)) (none_idle xs (λ e has. timers e (inr has)))
+
 module _ (stored : Stored) (keyed : AreKeyed stored) where
   pub no_timers : stored.timers ≡ [] → (owner : ℕ) → due_moments (entries_in owner stored) ≡ []
   no_timers none owner = no_moments (entries_in owner stored) (λ e has. by e (has_timers owner e stored.timers (map idle_item stored.idle) (bag_has number_of owner e (bag_of stored) has)))
@@ -82,6 +92,24 @@ module _ (stored : Stored) (keyed : AreKeyed stored) where
         owner = k.owner;
         among = among_moments k.due e (entries_in k.owner stored) kept.0.1 has;
         least = λ other. All-from_recursion (λ its. k.due ≤ its) (due_moments (entries_in other stored)) (moments_from k.due (entries_in other stored) (from_all k later other));
+      }
+
+  pub no_idle : stored.idle ≡ [] → (owner : ℕ) → idle_ids (entries_in owner stored) ≡ []
+  no_idle none owner = none_idle (entries_in owner stored) (λ e has. by e (has_timers owner e stored.timers (map idle_item stored.idle) (bag_has number_of owner e (bag_of stored) has)))
+    where
+      by : (e : WaitingScript) → Has (item owner e) (map timer_item stored.timers) ⊎ Has (item owner e) (map idle_item stored.idle) → is_none e.due ≡ false
+      by e (inl front) = timer_due owner e stored.timers keyed.0 front
+      by e (inr back) = absurd (subst (λ is. Has (item owner e) (map idle_item is)) none back)
+
+  -- so that of the application whose timer it is
+  pub first_own : (k : DueKey) (e : WaitingScript) (rest : List (DueKey × WaitingScript)) → stored.timers ≡ (k, e) ∷ rest → AllByRecursion (IsLeBy due_cmp k) (keys_of stored.timers)
+      → IsLeastOf (due_moments (entries_in k.owner stored)) k.due
+  first_own k e rest is later =
+      let kept = subst (AllByRecursion IsTimer) is keyed.0 in
+      let has : Has e (entries_in k.owner stored) = subst (λ ts. Has e (entries_in k.owner (record stored { timers = ts }))) (sym is) (listed_has number_of k.owner e [] (map timer_item rest ++ map idle_item stored.idle)) in
+      record {
+        among = among_moments k.due e (entries_in k.owner stored) kept.0.1 has;
+        least = All-from_recursion (λ its. k.due ≤ its) (due_moments (entries_in k.owner stored)) (moments_from k.due (entries_in k.owner stored) (from_all k later k.owner));
       }
 
 -- the first of a list that a place tells

@@ -33,6 +33,12 @@ pub fn is_name_of(characters: &str, id: u64) -> bool
     }
 }
 
+/// The number whose name the characters are, if they are a name; otherwise any.
+pub fn number_told(characters: &str) -> u64 {
+    let digits = characters.strip_prefix("after#").unwrap_or("");
+    digits.parse::<u64>().unwrap_or(0)
+}
+
 /// The error for a name under which nothing is listed.
 pub fn no_event(alloc: Global, name: &str) -> Result<Answer, AllocError>
     ensures { IfOk result (λ answer.

@@ -8,7 +8,7 @@ ghost use Rattle.tk_after.specs.After.{name_of};
 ghost use Rattle.tk_after.specs.Keys.{Mark, marks_in, marks_of, mark_number, lies_due_at};
 ghost use Rattle.tk_after.specs.Timers.{lesser, least};
 
-use crate::answers::is_name_of;
+use crate::answers::{is_name_of, number_told};
 use crate::keys::Name;
 use std::alloc::{AllocError, Global};
 use std::collections::BTreeMap;
@@ -93,6 +93,37 @@ impl TimerIndex {
         ensures { result
             ≡ option_map mark_number (find (λ mark. bytes_eq (name_of mark.id) text.now) (marks_of owner self.now)) }
     {
+        self.named_as(owner, text, number_told(text))
+    }
+
+    /// The same: of the number that is given, if that is its name.
+    fn named_as(&self, owner: usize, text: &str, id: u64) -> Option<u64>
+        ensures { result
+            ≡ option_map mark_number (find (λ mark. bytes_eq (name_of mark.id) text.now) (marks_of owner self.now)) }
+    {
+        let _ = &self.marks;
+        if is_name_of(text, id) {
+            self.listed(owner, id)
+        } else {
+            self.named_among(owner, text)
+        }
+    }
+
+    /// A number, if it is listed.
+    fn listed(&self, owner: usize, id: u64) -> Option<u64>
+        ensures { result ≡ option_map mark_number (numbered mark_number id (marks_of owner self.now)) }
+    {
+        match self.due_of(owner, id) {
+            Some(_due) => Some(id),
+            None => None,
+        }
+    }
+
+    /// The number that scripts have this name for, looked for among all.
+    fn named_among(&self, owner: usize, text: &str) -> Option<u64>
+        ensures { result
+            ≡ option_map mark_number (find (λ mark. bytes_eq (name_of mark.id) text.now) (marks_of owner self.now)) }
+    {
         for (name, _) in self.own(owner) {
             if is_name_of(text, name.id) {
                 return Some(name.id);
@@ -110,6 +141,13 @@ impl TimerIndex {
             list.push(name.id)?;
         }
         Ok(list)
+    }
+
+    /// No numbers. It takes no memory.
+    pub fn no_ids(&self) -> Vec<u64>
+        ensures { result.items ≡ [] }
+    {
+        Vec::new(self.alloc)
     }
 
     /// The numbers of the idle scripts, in order.

@@ -1,9 +1,9 @@
 //! What waits of all applications: the timers in the order in which they are due, and the idle scripts.
-ghost use Rattle.std.specs.Prelude.{◌≡◌, ◌≢◌, ℕ, List, [], ◌∷◌, ◌++◌, IfSome, IfNone, IsSome, OnOk, OnErr};
+ghost use Rattle.std.specs.Prelude.{◌≡◌, ◌≢◌, ℕ, false, List, [], ◌∷◌, ◌++◌, IfSome, IfNone, IsSome, OnOk, OnErr};
 ghost use Rattle.std.specs.Option.{option_copied};
 ghost use Rattle.tk_base.specs.Numbered.{AllBelow, IsRising, without};
 ghost use Rattle.tk_after.specs.Keys.{entries_in, bag_of, taken, number_of, IsMarked};
-ghost use Rattle.tk_after.specs.Timers.{entry_with, due_moments};
+ghost use Rattle.tk_after.specs.Timers.{entry_with, due_moments, idle_ids, IsLeastOf};
 ghost use Rattle.tk_after.specs.Shared.{Held, IsNextDue};
 
 use crate::keys::{DueKey, Name};
@@ -95,6 +95,23 @@ impl TimerScripts {
         match due {
             Some(due) => self.timers.remove(&DueKey { due, owner, id }),
             None => self.idle.remove(&Name { owner, id }),
+        }
+    }
+
+    /// Whether idle scripts wait in any application.
+    pub fn has_idle(&self) -> bool
+        ensures { result ≡ false → (owner : ℕ) → idle_ids (entries_in owner self.now) ≡ [] }
+    {
+        !self.idle.is_empty()
+    }
+
+    /// Under what the timer stands that is due first of all.
+    pub fn first(&self) -> Option<DueKey>
+        ensures { IfSome result (λ key. IsLeastOf (due_moments (entries_in key.owner self.now)) key.due) }
+    {
+        match self.timers.first_key_value() {
+            Some((key, _)) => Some(*key),
+            None => None,
         }
     }
 

@@ -149,7 +149,10 @@ impl Timers {
         ensures none { IfNone result (due_moments (entries_of owner self.now) ≡ []) }
         ensures least { IfSome result (IsLeastOf (due_moments (entries_of owner self.now))) }
     {
-        self.index.next_due(owner)
+        match self.scripts.first() {
+            Some(key) if key.owner == owner => Some(key.due),
+            _ => self.index.next_due(owner),
+        }
     }
 
     /// Takes out the timer that goes first of those that the application has due by a moment, the earliest and of those the first made, and
@@ -187,7 +190,11 @@ impl Timers {
     pub fn idle_round(&self, owner: usize) -> Result<Vec<u64>, AllocError>
         ensures { IfOk result (λ list. list.items ≡ idle_ids (entries_of owner self.now)) }
     {
-        self.index.idle_ids(owner)
+        if self.scripts.has_idle() {
+            self.index.idle_ids(owner)
+        } else {
+            Ok(self.index.no_ids())
+        }
     }
 
     /// The number that comes next.

@@ -68,7 +68,7 @@ alone_stands s asked places_long slots_long slaves_long places slots slaves quie
   main = λ place is. places zero place is;
   loose = λ j is. (let found = beside s.slots s.places (slots_long ∙ sym places_long) (suc j) None is in found.1 ∙ ap Some (places (suc j) found.0 found.1));
   within = λ q is. absurd (both_ways (s.rearrange q) (quiet q) is);
-  sized = λ i isnt shape list at_i at_list.
+  sized = λ i isnt behind shape list at_i at_list.
       ap (λ (sizes : List (ℕ × ℕ)). slice_get sizes i) asked ∙ get_map own_size s.shapes i ∙ ap (option_map own_size) at_i
       ∙ ap (λ (l : List Slave). Some (size_asked shape (asks s.asked l))) (sym (slaves i list at_list));
   arranged = λ i isnt k shape list place slave at_i at_list at_place at_k. absurd (no_slave list (slaves i list at_list) k slave at_k);
@@ -103,7 +103,7 @@ module _ (s : Standing) (ok : IsStanding s) (master position : ℕ) (list : List
     main = ok.main;
     loose = λ j is. ok.loose j (was_free (suc j) is (cases_eq (suc j) position));
     within = ok.within;
-    sized = λ q isnt shape l at_q at_l. ok.sized q isnt shape l at_q (others q (λ same. both_ways (s.resize q) isnt (ap s.resize same ∙ in_resize)) l at_l);
+    sized = λ q isnt behind shape l at_q at_l. ok.sized q isnt behind shape l at_q (others q (λ same. both_ways (s.resize q) isnt (ap s.resize same ∙ in_resize)) l at_l);
     arranged = λ q isnt k shape l place slave at_q at_l at_place at_k.
         ok.arranged q isnt k shape l place slave at_q (others q (λ same. both_ways (s.rearrange q) isnt (ap s.rearrange same ∙ in_rearrange)) l at_l) at_place at_k;
     shown = ok.shown;

@@ -9,8 +9,9 @@ use Rattle.tk_packer.specs.declared.standing.Slave.{Slave}
 use Rattle.tk_packer.specs.declared.standing.Slot.{Slot}
 use Rattle.tk_packer.specs.Asked.{size_asked}
 use Rattle.tk_packer.specs.Changes.{laid}
-use Rattle.tk_packer.specs.Standing.{AreApart, AreNamed, HaveLengths, IsArranged, IsShown, IsSized, IsStanding, MasterWaits, SameRoom, Standing, asks, places_for, shown, sized_at}
-use Rattle.tk_packer.proofs.Gets.{get_within, it_is, none_some, set_here, set_there}
+use Rattle.tk_packer.specs.Standing.{AreApart, AreNamed, HaveLengths, IsArranged, IsShown, IsSized, IsStanding, LiesAlike, MasterWaits, SameRoom, Standing, asks, places_for, shown}
+use Rattle.tk_packer.proofs.Gets.{get_within, it_is, none_some, set_here, set_there, within_get}
+use Rattle.tk_packer.proofs.Staying.{asks_other, places_stay}
 
 -- what isn't so afterwards wasn't so before
 pub wasnt : (before after : Bool) → (before ≡ true → after ≡ true) → after ≡ false → before ≡ false
@@ -23,12 +24,6 @@ same_places shape requests None (Some other) same = absurd same
 same_places shape requests (Some one) None same = absurd same
 same_places shape requests (Some one) (Some other) same =
     ap (λ width. places_for shape requests (Some (record one { width = width }))) same.0 ∙ ap (λ height. places_for shape requests (Some (record one { width = other.width; height = height }))) same.1
-
-asks_other : (asked : List (ℕ × ℕ)) (i : ℕ) (size : ℕ × ℕ) (list : List Slave) → ((k : ℕ) (slave : Slave) → slice_get list k ≡ Some slave → slave.position ≢ i)
-    → asks (set asked i size) list ≡ asks asked list
-asks_other asked i size [] none = refl
-asks_other asked i size (slave ∷ list) none =
-    rw (set_there asked i slave.position size (none zero slave refl)) (ap (λ (rs : List Request). sized_at asked slave ∷ rs) (asks_other asked i size list (λ k x is. none (suc k) x is)))
 
 module _ (s : Standing) (ok : IsStanding s) where
   -- more windows may be looked at
@@ -61,7 +56,7 @@ module _ (s : Standing) (ok : IsStanding s) where
 
   -- ── sizes ──
 
-  pub asked_changed : (i : ℕ) (size : ℕ × ℕ) → MasterWaits s i → s.resize i ≡ true → IsStanding (record s { asked = set s.asked i size })
+  pub asked_changed : (i : ℕ) (size : ℕ × ℕ) → MasterWaits s i size → s.resize i ≡ true → IsStanding (record s { asked = set s.asked i size })
   asked_changed i size waits marked = record {
     lengths = record { asked = length-set s.asked i size ∙ ok.lengths.asked; places = ok.lengths.places; slots = ok.lengths.slots; slaves = ok.lengths.slaves };
     forest = ok.forest;
@@ -70,20 +65,59 @@ module _ (s : Standing) (ok : IsStanding s) where
     main = ok.main;
     loose = ok.loose;
     within = ok.within;
-    sized = λ q isnt shape list at_q at_list.
+    sized = λ q isnt behind shape list at_q at_list.
         (let differ : q ≢ i = λ same. both_ways (s.resize q) isnt (ap s.resize same ∙ marked) in
-        set_there s.asked i q size differ ∙ ok.sized q isnt shape list at_q at_list
-        ∙ ap (λ (rs : List Request). Some (size_asked shape rs)) (sym (asks_other s.asked i size list (λ k slave at_k same. both_ways (s.resize q) isnt (waits _ (slot_at q k list slave at_list at_k same)).0))));
+        set_there s.asked i q size differ ∙ ok.sized q isnt behind shape list at_q at_list
+        ∙ ap (λ (rs : List Request). Some (size_asked shape rs)) (sym (asks_other s.asked i size list (λ k slave at_k same. both_ways (s.resize q) isnt ((waits _ (slot_at q k list slave at_list at_k same)).0 behind)))));
     arranged = λ q isnt k shape list place slave at_q at_list at_place at_k.
         ok.arranged q isnt k shape list place slave at_q at_list at_place at_k
-        ∙ ap (λ (rs : List Request). slice_get (places_for shape rs place) k)
-        (sym (asks_other s.asked i size list (λ m other at_m same. both_ways (s.rearrange q) isnt (waits _ (slot_at q m list other at_list at_m same)).1)));
+        ∙ ap (λ (ps : List (Option Rect)). slice_get ps k) (sym (stays q isnt shape list place at_list (slice_get s.slots i) refl));
     shown = ok.shown;
   }
     where
       slot_at : (q k : ℕ) (list : List Slave) (slave : Slave) → slice_get s.slaves q ≡ Some list → slice_get list k ≡ Some slave → slave.position ≡ i
           → slice_get s.slots i ≡ Some (Some (record { master = q; place = k }))
       slot_at q k list slave at_list at_k same = ap (slice_get s.slots) (sym same) ∙ (ok.forest.down q k list slave at_list at_k).1
+
+      -- none of the slaves is the window
+      others_stay : (q : ℕ) (shape : Shape) (list : List Slave) (place : Option Rect) → ((k : ℕ) (slave : Slave) → slice_get list k ≡ Some slave → slave.position ≢ i)
+          → places_for shape (asks (set s.asked i size) list) place ≡ places_for shape (asks s.asked list) place
+      others_stay q shape list place none = ap (λ (rs : List Request). places_for shape rs place) (asks_other s.asked i size list none)
+
+      -- one of them is
+      slave_stays : (q : ℕ) → s.rearrange q ≡ false → (shape : Shape) (list : List Slave) (place : Option Rect) (slot : Slot) → slice_get s.slaves q ≡ Some list → slice_get s.slots i ≡ Some (Some slot)
+          → slot.master ≡ q → (s.rearrange slot.master ≡ true) ⊎ LiesAlike s slot i size → places_for shape (asks (set s.asked i size) list) place ≡ places_for shape (asks s.asked list) place
+      slave_stays q isnt shape list place slot at_list at_slot same (inl in_rearrange) = absurd (both_ways (s.rearrange q) isnt (ap s.rearrange (sym same) ∙ in_rearrange))
+      slave_stays q isnt shape list place slot at_list at_slot same (inr alike) =
+          let from = ok.forest.up i slot at_slot in
+          let master_list : slice_get s.slaves slot.master ≡ Some list = ap (slice_get s.slaves) same ∙ at_list in
+          let at_k : slice_get list slot.place ≡ Some from.1.0 = ap (λ (l : List Slave). slice_get l slot.place) (it_is list from.0 (sym master_list ∙ from.1.1.0)) ∙ from.1.1.1.0 in
+          let long = ok.lengths.slots in
+          let sizes_long = ok.lengths.asked in
+          let lt = get_within s.slots i (Some slot) at_slot in
+          let its = within_get s.asked i (omega (arith, lt, long, sizes_long)) in
+          places_stay s.asked i its.0 size its.1 shape list slot.place from.1.0 place at_k from.1.1.1.1
+          (λ m x at_m same_place. ap (λ (x : Slot). x.place) (it_is _ _ (it_is _ _ (sym (slot_at q m list x at_list at_m same_place) ∙ at_slot))))
+          (alike list master_list its.0 its.1)
+
+      stays : (q : ℕ) → s.rearrange q ≡ false → (shape : Shape) (list : List Slave) (place : Option Rect) → slice_get s.slaves q ≡ Some list → (slot : Option (Option Slot)) → slice_get s.slots i ≡ slot
+          → places_for shape (asks (set s.asked i size) list) place ≡ places_for shape (asks s.asked list) place
+      stays q isnt shape list place at_list None is =
+          others_stay q shape list place (λ k slave at_k same. none_some _ (sym is ∙ slot_at q k list slave at_list at_k same))
+      stays q isnt shape list place at_list (Some None) is =
+          others_stay q shape list place (λ k slave at_k same. none_some _ (it_is _ _ (sym is ∙ slot_at q k list slave at_list at_k same)))
+      stays q isnt shape list place at_list (Some (Some slot)) is = by (cases_eq slot.master q)
+        where
+          by : (slot.master ≡ q) ⊎ (slot.master ≢ q) → places_for shape (asks (set s.asked i size) list) place ≡ places_for shape (asks s.asked list) place
+          by (inl same) = slave_stays q isnt shape list place slot at_list is same (waits slot is).1
+          by (inr differ) =
+              others_stay q shape list place (λ k slave at_k same. differ (ap (λ (x : Slot). x.master) (it_is _ _ (it_is _ _ (sym is ∙ slot_at q k list slave at_list at_k same)))))
+
+  -- a window's master waits
+  pub waits_at : (i : ℕ) (size : ℕ × ℕ) (slot : Slot) → slice_get s.slots i ≡ Some (Some slot) → (0 < slot.master → s.resize slot.master ≡ true) → (s.rearrange slot.master ≡ true) ⊎ LiesAlike s slot i size
+      → MasterWaits s i size
+  waits_at i size slot at in_resize alike other is =
+      subst (λ (x : Slot). (0 < x.master → s.resize x.master ≡ true) × ((s.rearrange x.master ≡ true) ⊎ LiesAlike s x i size)) (it_is slot other (it_is (Some slot) (Some other) (sym at ∙ is))) (in_resize, alike)
 
   -- a window that asks for the right size needn't be looked at
   pub is_sized : (i : ℕ) (resize : ℕ → Bool) → ((q : ℕ) → q ≢ i → resize q ≡ false → s.resize q ≡ false) → IsSized s i → IsStanding (record s { resize = resize })
@@ -108,7 +142,7 @@ module _ (s : Standing) (ok : IsStanding s) where
   pub sized_now : (i : ℕ) (size : ℕ × ℕ)
       → ((shape : Shape) (list : List Slave) → slice_get s.shapes i ≡ Some shape → slice_get s.slaves i ≡ Some list → size ≡ size_asked shape (asks s.asked list))
       → IsSized (record s { asked = set s.asked i size }) i
-  sized_now i size right shape list at_i at_list =
+  sized_now i size right behind shape list at_i at_list =
       let lt : i < length s.asked = (let within = get_within s.shapes i shape at_i in let long = ok.lengths.asked in omega (arith, within, long)) in
       set_here s.asked i size lt ∙ ap Some (right shape list at_i at_list)
       ∙ ap (λ (rs : List Request). Some (size_asked shape rs))
@@ -239,8 +273,8 @@ module _ (s : Standing) (ok : IsStanding s) where
       main = ok.main;
       loose = ok.loose;
       within = λ q is. (let lt = within q is in let long = length-set s.shapes i new in omega (arith, lt, long));
-      sized = λ q isnt shape list at_q at_list.
-          ok.sized q (wasnt (s.resize q) (resize q) (more_resize q) isnt) shape list (other q (λ same. both_ways (resize q) isnt (ap resize same ∙ in_resize)) shape at_q) at_list;
+      sized = λ q isnt behind shape list at_q at_list.
+          ok.sized q (wasnt (s.resize q) (resize q) (more_resize q) isnt) behind shape list (other q (λ same. both_ways (resize q) isnt (ap resize same ∙ in_resize)) shape at_q) at_list;
       arranged = λ q isnt k shape list place slave at_q at_list at_place at_k.
           ok.arranged q (wasnt (s.rearrange q) (rearrange q) (more_rearrange q) isnt) k shape list place slave
           (other q (λ same. both_ways (rearrange q) isnt (ap rearrange same ∙ in_rearrange)) shape at_q) at_list at_place at_k;
@@ -283,7 +317,7 @@ module _ (s : Standing) (ok : IsStanding s) where
       main = ok.main;
       loose = ok.loose;
       within = λ q is. (let lt = ok.within q is in let long = length-set s.shapes i (laid old its) in omega (arith, lt, long));
-      sized = λ q isnt shape list at_q at_list. sized_by q isnt shape list at_q at_list (cases_eq q i);
+      sized = λ q isnt behind shape list at_q at_list. sized_by q isnt behind shape list at_q at_list (cases_eq q i);
       arranged = λ q isnt k shape list place slave at_q at_list at_p at_k. arranged_by q isnt k shape list place slave at_q at_list at_p at_k (cases_eq q i);
       shown = λ q isnt shape place at_q at_p. shown_by q isnt shape place at_q at_p (cases_eq q i);
     }
@@ -300,12 +334,12 @@ module _ (s : Standing) (ok : IsStanding s) where
         was : (q : ℕ) → q ≡ i → slice_get s.shapes q ≡ Some old
         was q same = ap (slice_get s.shapes) same ∙ at_old
 
-        sized_by : (q : ℕ) → s.resize q ≡ false → (shape : Shape) (list : List Slave) → slice_get now q ≡ Some shape → slice_get s.slaves q ≡ Some list → (q ≡ i) ⊎ (q ≢ i)
+        sized_by : (q : ℕ) → s.resize q ≡ false → 0 < q → (shape : Shape) (list : List Slave) → slice_get now q ≡ Some shape → slice_get s.slaves q ≡ Some list → (q ≡ i) ⊎ (q ≢ i)
             → slice_get s.asked q ≡ Some (size_asked shape (asks s.asked list))
-        sized_by q isnt shape list at_q at_list (inl same) =
-            ok.sized q isnt old list (was q same) at_list
+        sized_by q isnt behind shape list at_q at_list (inl same) =
+            ok.sized q isnt behind old list (was q same) at_list
             ∙ ap Some (sym (size_laid its (asks s.asked list)) ∙ ap (λ (x : Shape). size_asked x (asks s.asked list)) (sym (is_laid q shape at_q same)))
-        sized_by q isnt shape list at_q at_list (inr differ) = ok.sized q isnt shape list (other q differ shape at_q) at_list
+        sized_by q isnt behind shape list at_q at_list (inr differ) = ok.sized q isnt behind shape list (other q differ shape at_q) at_list
 
         arranged_by : (q : ℕ) → s.rearrange q ≡ false → (k : ℕ) (shape : Shape) (list : List Slave) (place : Option Rect) (slave : Slave) → slice_get now q ≡ Some shape
             → slice_get s.slaves q ≡ Some list → slice_get s.places q ≡ Some place → slice_get list k ≡ Some slave → (q ≡ i) ⊎ (q ≢ i)

@@ -51,7 +51,7 @@ module _ (s : Standing) (ok : IsStanding s) (master n : ℕ) (list fewer : List 
     main = λ place is. ok.main place (sym (set_there s.places slave.position zero None (λ same. omega (arith, below, same))) ∙ is);
     loose = λ j is. lies_nowhere j is (cases_eq (suc j) slave.position);
     within = λ q is. is_within q (more_rearranged.only q is);
-    sized = λ q isnt shape l at_q at_l. ok.sized q isnt shape l at_q (others q (λ same. both_ways (s.resize q) isnt (ap s.resize same ∙ in_resize)) l at_l);
+    sized = λ q isnt behind shape l at_q at_l. ok.sized q isnt behind shape l at_q (others q (λ same. both_ways (s.resize q) isnt (ap s.resize same ∙ in_resize)) l at_l);
     arranged = λ q isnt k shape l place x at_q at_l at_place at_k. is_arranged q isnt k shape l place x at_q at_l at_place at_k;
     shown = λ q isnt shape place at_q at_place.
         ok.shown q (wasnt (s.moved q) (moved q) (more_moved.more q) isnt) shape place at_q

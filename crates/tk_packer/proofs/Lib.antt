@@ -17,6 +17,7 @@ pub mod Shares
 pub mod Shown
 pub mod Sizes
 pub mod Stands
+pub mod Staying
 pub mod Tallies
 pub mod Telling
 pub mod Ties

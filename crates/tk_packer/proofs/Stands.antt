@@ -98,11 +98,11 @@ module _ (s : Standing) (ok : IsStanding s) (all_sized : (i : ℕ) → IsSized s
       ∙ ap (λ (rs : List Request). sized_at s.asked slave ∷ rs) (same_asks known list (λ k x is. each (suc k) x is))
 
   -- what the windows from a place on ask for
-  asked_from : (o : ℕ) (rest : List Shape) → ((k : ℕ) → slice_get rest k ≡ slice_get s.shapes (o + k)) → (k : ℕ) (shape : Shape) → slice_get rest k ≡ Some shape
+  asked_from : (o : ℕ) (rest : List Shape) → ((k : ℕ) → slice_get rest k ≡ slice_get s.shapes (o + k)) → (k : ℕ) (shape : Shape) → slice_get rest k ≡ Some shape → 0 < o + k
       → lookup (nat_eq shape.number) (sizes_asked slaves_by rest) ≡ slice_get s.asked (o + k)
   unfolding sizes_asked with_asked
-  asked_from o [] at k shape is = absurd (cc)
-  asked_from o (first ∷ rest) at zero shape is =
+  asked_from o [] at k shape is behind = absurd (cc)
+  asked_from o (first ∷ rest) at zero shape is behind =
       let here : slice_get s.shapes o ≡ Some first = ap (slice_get s.shapes) (omega arith) ∙ sym (at zero) in
       let beside_it = beside s.shapes s.slaves (sym ok.lengths.slaves) o first here in
       let list : List Slave = beside_it.0 in
@@ -115,28 +115,28 @@ module _ (s : Standing) (ok : IsStanding s) (all_sized : (i : ℕ) → IsSized s
       let below : o < slave.position = (ok.forest.down o m list slave beside_it.1 at_m).0 in
       let same : suc o + (slave.position - suc o) ≡ slave.position = omega (arith, below) in
       ap (λ n. lookup (nat_eq n) known) found.1.1
-      ∙ asked_from (suc o) rest later (slave.position - suc o) found.0 (later (slave.position - suc o) ∙ ap (slice_get s.shapes) same ∙ found.1.0)
+      ∙ asked_from (suc o) rest later (slave.position - suc o) found.0 (later (slave.position - suc o) ∙ ap (slice_get s.shapes) same ∙ found.1.0) (omega arith)
       ∙ ap (slice_get s.asked) same)) in
       subst (λ (x : Shape). lookup (nat_eq x.number) (sizes_asked slaves_by (first ∷ rest)) ≡ slice_get s.asked (o + zero)) (it_is first shape is)
       (rw (eq-eqb first.number first.number refl)
-      (ap (λ (rs : List Request). Some (size_asked first rs)) own ∙ sym (all_sized o first list here beside_it.1) ∙ ap (slice_get s.asked) (omega arith)))
+      (ap (λ (rs : List Request). Some (size_asked first rs)) own ∙ sym (all_sized o (omega (arith, behind)) first list here beside_it.1) ∙ ap (slice_get s.asked) (omega arith)))
     where
       later : (k : ℕ) → slice_get rest k ≡ slice_get s.shapes (suc o + k)
       later k = at (suc k) ∙ ap (slice_get s.shapes) (omega arith)
-  asked_from o (first ∷ rest) at (suc k) shape is =
+  asked_from o (first ∷ rest) at (suc k) shape is behind =
       let here : slice_get s.shapes o ≡ Some first = ap (slice_get s.shapes) (omega arith) ∙ sym (at zero) in
       let its : slice_get s.shapes (o + suc k) ≡ Some shape = sym (at (suc k)) ∙ is in
       rw (ne_eqb shape.number first.number (λ same. (let wrong : o + suc k ≡ o = ok.apart (o + suc k) o shape first its here same in omega (arith, wrong))))
-      (asked_from (suc o) rest (λ m. at (suc m) ∙ ap (slice_get s.shapes) (omega arith)) k shape is ∙ ap (slice_get s.asked) (omega arith))
+      (asked_from (suc o) rest (λ m. at (suc m) ∙ ap (slice_get s.shapes) (omega arith)) k shape is (omega arith) ∙ ap (slice_get s.asked) (omega arith))
 
-  asked_right : (i : ℕ) (shape : Shape) → slice_get s.shapes i ≡ Some shape → lookup (nat_eq shape.number) sizes ≡ slice_get s.asked i
-  asked_right i shape is = asked_from zero s.shapes (λ k. ap (slice_get s.shapes) (omega arith)) i shape is ∙ ap (slice_get s.asked) (omega arith)
+  asked_right : (i : ℕ) (shape : Shape) → slice_get s.shapes i ≡ Some shape → 0 < i → lookup (nat_eq shape.number) sizes ≡ slice_get s.asked i
+  asked_right i shape is behind = asked_from zero s.shapes (λ k. ap (slice_get s.shapes) (omega arith)) i shape is (omega (arith, behind)) ∙ ap (slice_get s.asked) (omega arith)
 
   requests_right : (i : ℕ) (shape : Shape) (list : List Slave) → slice_get s.shapes i ≡ Some shape → slice_get s.slaves i ≡ Some list
       → requests_of sizes (slaves_by shape.number) ≡ asks s.asked list
   requests_right i shape list is its =
       ap (requests_of sizes) (packed_at s.shapes s.slaves ok.apart i shape list is its)
-      ∙ same_asks sizes list (λ k slave at_k. (let found = there i k list slave its at_k in ap (λ n. lookup (nat_eq n) sizes) found.1.1 ∙ asked_right slave.position found.0 found.1.0))
+      ∙ same_asks sizes list (λ k slave at_k. (let found = there i k list slave its at_k in ap (λ n. lookup (nat_eq n) sizes) found.1.1 ∙ asked_right slave.position found.0 found.1.0 (let below = (ok.forest.down i k list slave its at_k).0 in omega (arith, below))))
 
   -- ── where they lie ──
 

@@ -11,5 +11,6 @@ pub mod Loops
 pub mod Packs
 pub mod Parcels
 pub mod Shared
+pub mod Spread
 pub mod Standing
 pub mod Tables

@@ -1,9 +1,10 @@
 -- Steps. The windows of one application in a layout that is kept, each by its place in pre-order.
-use Rattle.std.specs.Prelude.{◌≡◌, ◌<◌, ◌==◌, ℕ, zero, suc, Bool, true, false, nat_eq, if◌then◌else◌, List, [], ◌∷◌, length, map, set, take, Option, None, Some, option_map, slice_get}
+use Rattle.std.specs.Prelude.{◌≡◌, ◌⊎◌, ◌<◌, ◌==◌, ℕ, zero, suc, Bool, true, false, nat_eq, if◌then◌else◌, List, [], ◌∷◌, length, map, set, take, Option, None, Some, option_map, slice_get}
 use Rattle.std.specs.BTreeSet.{contains}
 use Rattle.std.specs.Map.{lookup}
 use Rattle.std.specs.Ordering.{nat_cmp}
 use Rattle.tk_base.specs.declared.rect.Rect.{Rect}
+use Rattle.tk_packer.specs.declared.ask.Axis.TheVariants.{Horizontal, Vertical}
 use Rattle.tk_packer.specs.declared.packed.Packed.{Packed}
 use Rattle.tk_packer.specs.declared.request.Request.{Request}
 use Rattle.tk_packer.specs.declared.shape.Shape.{Shape}
@@ -13,6 +14,7 @@ use Rattle.tk_packer.specs.declared.standing.Slot.{Slot}
 use Rattle.tk_packer.specs.Asked.{with_size, size_asked}
 use Rattle.tk_packer.specs.Layout.{cavity_of, counted_outside, layout_by, whole_of}
 use Rattle.tk_packer.specs.Parcels.{arrangement}
+use Rattle.tk_packer.specs.Spread.{IsAlikeAlong}
 
 -- ---- what a layout is made from
 
@@ -97,9 +99,9 @@ pub record HaveLengths (shapes : List Shape) (sizes : List (ℕ × ℕ)) (rects 
   pub slaves : length lists ≡ length shapes
 
 module _ (s : Standing) where
-  -- a window asks for what its slaves and its widget want
+  -- a window asks for what its slaves and its widget want; what the main window asks for, the first, decides nothing
   abbrev pub IsSized : ℕ → Type 0
-  IsSized i = (shape : Shape) (list : List Slave) → slice_get s.shapes i ≡ Some shape → slice_get s.slaves i ≡ Some list
+  IsSized i = 0 < i → (shape : Shape) (list : List Slave) → slice_get s.shapes i ≡ Some shape → slice_get s.slaves i ≡ Some list
       → slice_get s.asked i ≡ Some (size_asked shape (asks s.asked list))
 
   -- its slaves lie where it has them
@@ -158,9 +160,14 @@ module _ (s : Standing) where
   ArePlacesNow i places = (shape : Shape) (list : List Slave) (place : Option Rect) → slice_get s.shapes i ≡ Some shape → slice_get s.slaves i ≡ Some list
       → slice_get s.places i ≡ Some place → places ≡ places_for shape (asks s.asked list) place
 
-  -- the master of a window, if it has one, is still to be looked at
-  abbrev pub MasterWaits : ℕ → Type 0
-  MasterWaits i = (slot : Slot) → slice_get s.slots i ≡ Some (Some slot) → (s.resize slot.master ≡ true) × (s.rearrange slot.master ≡ true)
+  -- where the window at a place, which is packed so, asks for a size, its master's slaves lie as they did
+  abbrev pub LiesAlike : Slot → ℕ → ℕ × ℕ → Type 0
+  LiesAlike slot i size = (list : List Slave) → slice_get s.slaves slot.master ≡ Some list → (old : ℕ × ℕ) → slice_get s.asked i ≡ Some old
+      → IsAlikeAlong Horizontal list slot.place old.0 size.0 × IsAlikeAlong Vertical list slot.place old.1 size.1
+
+  -- the master of a window, if it has one, is still to be looked at, but not the size of the main window, and not the places of slaves that lie as they did once the window asks for a size
+  abbrev pub MasterWaits : ℕ → ℕ × ℕ → Type 0
+  MasterWaits i size = (slot : Slot) → slice_get s.slots i ≡ Some (Some slot) → (0 < slot.master → s.resize slot.master ≡ true) × ((s.rearrange slot.master ≡ true) ⊎ LiesAlike slot i size)
 
   -- a window has a master, whose slaves' places are still to be looked at
   abbrev pub IsToBePlaced : ℕ → Type 0

@@ -88,7 +88,7 @@ impl Ask {
     }
 }
 
-fn edge_of(axis: Axis, side: Side) -> Option<Edge>
+pub fn edge_of(axis: Axis, side: Side) -> Option<Edge>
     ensures { result ≡ edge_of axis side }
 {
     match (axis, side) {
@@ -99,7 +99,7 @@ fn edge_of(axis: Axis, side: Side) -> Option<Edge>
     }
 }
 
-fn fills_along(axis: Axis, fill: Fill) -> bool
+pub fn fills_along(axis: Axis, fill: Fill) -> bool
     ensures { result ≡ fills_along axis fill }
 {
     match fill {

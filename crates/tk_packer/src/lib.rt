@@ -25,6 +25,7 @@ mod resizing;
 mod same;
 mod shape;
 mod showing;
+mod spread;
 mod standing;
 mod table;
 mod wanted;

@@ -2,11 +2,13 @@
 ghost use Rattle.std.specs.Prelude.{◌≡◌, ◌+◌, ◌<◌, true, [], List, None, Some, set, IfOk, OnOk, length, slice_get};
 ghost use Rattle.std.specs.BTreeSet.{Updates, contains};
 ghost use Rattle.std.specs.Ordering.{nat_cmp};
-ghost use Rattle.tk_packer.specs.Groups.{slaves_in};
+ghost use Rattle.tk_packer.specs.Groups.{slaves_by, slaves_in};
 ghost use Rattle.tk_packer.specs.Standing.{ArePackedBut, IsIndex, IsPackedAs, IsStanding, StandsWith, packed_of, standing_of};
+ghost use Rattle.tk_packer.specs.declared.shape.Shape.{Shape};
 ghost use Rattle.tk_packer.specs.declared.standing.Slave.{Slave};
 
-use crate::building::{add_slaves, mark, set_slaves, slaves_at};
+use crate::building::{add_slaves, mark, set_slaves};
+use crate::own::OwnPacks;
 use crate::rearranging::{position_of, set_place};
 use crate::same::is_same_packed;
 use crate::standing::{KeptWindows, Slave, Slot};
@@ -117,24 +119,33 @@ fn empty(alloc: Global, windows: &mut KeptWindows, master: usize) -> Result<(), 
     Ok(())
 }
 
-/// Empties the window at a place if something else is packed in it than a table says, and notes that.
+/// What is packed in the window at a place.
+fn slaves_here<'a>(windows: &KeptWindows, own: &'a OwnPacks, place: usize) -> &'a [Packed]
+    ensures { (shape : Shape) → slice_get windows.now.shapes.items place ≡ Some shape → result.now ≡ slaves_by own.now shape.number }
+{
+    match windows.shapes.get(place) {
+        Some(shape) => own.slaves(shape.number),
+        None => &[],
+    }
+}
+
+/// Empties the window at a place if something else is packed in it than an application has, and notes that.
 fn empty_if_other(
     alloc: Global,
     windows: &mut KeptWindows,
-    packs: &PackTable,
-    owner: usize,
+    own: &OwnPacks,
     place: usize,
     emptied: &mut BTreeSet<usize>,
 ) -> Result<(), AllocError>
     requires standing { IsStanding (standing_of windows.old) }
     requires within { place < length windows.old.shapes.items }
-    requires packs { ArePackedBut (contains nat_cmp emptied.old) (slaves_in owner packs.now) place windows.old.shapes.items windows.old.slaves.items }
+    requires packs { ArePackedBut (contains nat_cmp emptied.old) (slaves_by own.now) place windows.old.shapes.items windows.old.slaves.items }
     ensures standing { OnOk result (IsStanding (standing_of windows.new)) }
     ensures size { windows.new.size ≡ windows.old.size }
     ensures shapes { windows.new.shapes.items ≡ windows.old.shapes.items }
-    ensures packs { OnOk result (ArePackedBut (contains nat_cmp emptied.new) (slaves_in owner packs.now) (place + 1) windows.new.shapes.items windows.new.slaves.items) }
+    ensures packs { OnOk result (ArePackedBut (contains nat_cmp emptied.new) (slaves_by own.now) (place + 1) windows.new.shapes.items windows.new.slaves.items) }
 {
-    let packed = slaves_at(windows, packs, owner, place);
+    let packed = slaves_here(windows, own, place);
     if has_packed(windows, place, packed) {
         return Ok(());
     }
@@ -143,46 +154,44 @@ fn empty_if_other(
     Ok(())
 }
 
-/// Empties those windows in which something else is packed than a table says, and answers which these are.
+/// Empties those windows in which something else is packed than an application has, and answers which these are.
 fn empty_others(
     alloc: Global,
     windows: &mut KeptWindows,
-    packs: &PackTable,
-    owner: usize,
+    own: &OwnPacks,
 ) -> Result<BTreeSet<usize>, AllocError>
     requires { IsStanding (standing_of windows.old) }
     ensures standing { OnOk result (IsStanding (standing_of windows.new)) }
     ensures size { windows.new.size ≡ windows.old.size }
     ensures shapes { windows.new.shapes.items ≡ windows.old.shapes.items }
-    ensures packs { IfOk result (λ emptied. ArePackedBut (contains nat_cmp emptied) (slaves_in owner packs.now) (length windows.new.shapes.items) windows.new.shapes.items
+    ensures packs { IfOk result (λ emptied. ArePackedBut (contains nat_cmp emptied) (slaves_by own.now) (length windows.new.shapes.items) windows.new.shapes.items
         windows.new.slaves.items) }
 {
     let mut emptied = BTreeSet::new(alloc);
     for place in 0..windows.shapes.len() {
-        empty_if_other(alloc, windows, packs, owner, place, &mut emptied)?;
+        empty_if_other(alloc, windows, own, place, &mut emptied)?;
     }
     Ok(emptied)
 }
 
-/// Packs in the windows that were emptied what a table says, and answers whether all could be.
+/// Packs in the windows that were emptied what an application has, and answers whether all could be.
 fn fill_all(
     alloc: Global,
     windows: &mut KeptWindows,
     index: &HashMap<u64, usize>,
-    packs: &PackTable,
-    owner: usize,
+    own: &OwnPacks,
     emptied: &mut BTreeSet<usize>,
 ) -> Result<bool, AllocError>
     requires standing { IsStanding (standing_of windows.old) }
     requires index { IsIndex index.now.entries windows.old.shapes.items }
-    requires packs { ArePackedBut (contains nat_cmp emptied.old) (slaves_in owner packs.now) (length windows.old.shapes.items) windows.old.shapes.items windows.old.slaves.items }
+    requires packs { ArePackedBut (contains nat_cmp emptied.old) (slaves_by own.now) (length windows.old.shapes.items) windows.old.shapes.items windows.old.slaves.items }
     ensures standing { IfOk result (λ fits. fits ≡ true → IsStanding (standing_of windows.new)) }
     ensures size { windows.new.size ≡ windows.old.size }
     ensures shapes { windows.new.shapes.items ≡ windows.old.shapes.items }
-    ensures packs { IfOk result (λ fits. fits ≡ true → IsPackedAs (slaves_in owner packs.now) windows.new.shapes.items windows.new.slaves.items) }
+    ensures packs { IfOk result (λ fits. fits ≡ true → IsPackedAs (slaves_by own.now) windows.new.shapes.items windows.new.slaves.items) }
 {
     while let Some(place) = emptied.pop_first() {
-        let slaves = slaves_at(windows, packs, owner, place);
+        let slaves = slaves_here(windows, own, place);
         if !add_slaves(alloc, windows, index, place, slaves)? {
             return Ok(false);
         }
@@ -205,6 +214,9 @@ pub fn repack(
     ensures shapes { windows.new.shapes.items ≡ windows.old.shapes.items }
     ensures packs { IfOk result (λ fits. fits ≡ true → IsPackedAs (slaves_in owner packs.now) windows.new.shapes.items windows.new.slaves.items) }
 {
-    let mut emptied = empty_others(alloc, windows, packs, owner)?;
-    fill_all(alloc, windows, index, packs, owner, &mut emptied)
+    let nothing = OwnPacks::new(alloc);
+    let own = packs.own_or(owner, &nothing);
+    let mut emptied = empty_others(alloc, windows, own)?;
+    let fits = fill_all(alloc, windows, index, own, &mut emptied)?;
+    Ok(fits)
 }

@@ -1,12 +1,14 @@
 //! What windows ask for, found anew where it may be another size than what is kept.
-ghost use Rattle.std.specs.Prelude.{◌≡◌, ◌≢◌, ◌⊎◌, ◌<◌, ◌≤◌, ℕ, true, false, List, Some, set, IfOk, OnOk, MatchOption, slice_get};
+ghost use Rattle.std.specs.Prelude.{◌≡◌, ◌≢◌, ◌⊎◌, ◌<◌, ◌≤◌, ℕ, true, false, List, None, Some, set, IfOk, IfSome, OnOk, MatchOption, slice_get};
 ghost use Rattle.std.specs.BTreeSet.{contains};
 ghost use Rattle.std.specs.Ordering.{nat_cmp};
-ghost use Rattle.tk_packer.specs.Standing.{IsSizeNow, IsStanding, MasterWaits, SameInputs, asks, sized_at, standing_of};
+ghost use Rattle.tk_packer.specs.declared.standing.Slot.{Slot};
+ghost use Rattle.tk_packer.specs.Standing.{IsSizeNow, IsStanding, LiesAlike, MasterWaits, SameInputs, asks, sized_at, standing_of};
 
 use crate::Request;
 use crate::asked::size_asked;
-use crate::standing::{KeptWindows, Slave};
+use crate::spread::lies_alike;
+use crate::standing::{KeptWindows, Slave, Slot};
 use std::alloc::{AllocError, Global};
 use std::collections::BTreeSet;
 
@@ -71,22 +73,84 @@ fn put_size(asked: &mut Vec<(u32, u32)>, place: usize, size: (u32, u32))
     }
 }
 
-/// The size of a window's master, if it has one, and the places of the master's slaves are still to be looked at.
-fn mark_master(windows: &mut KeptWindows, place: usize) -> Result<(), AllocError>
+/// The places of a master's slaves are still to be looked at, but where they lie as they did once the one at a place asks for a size.
+fn mark_places(
+    windows: &mut KeptWindows,
+    slot: Slot,
+    place: usize,
+    size: (u32, u32),
+) -> Result<(), AllocError>
+    ensures parts { standing_of windows.new ≡ record (standing_of windows.old) { rearrange = contains nat_cmp windows.new.rearrange } }
+    ensures waits { OnOk result ((contains nat_cmp windows.new.rearrange slot.master ≡ true) ⊎ LiesAlike (standing_of windows.new) slot place size) }
+    ensures more { (q : ℕ) → contains nat_cmp windows.old.rearrange q ≡ true → contains nat_cmp windows.new.rearrange q ≡ true }
+    ensures only { (q : ℕ) → contains nat_cmp windows.new.rearrange q ≡ true → (q ≡ slot.master) ⊎ (contains nat_cmp windows.old.rearrange q ≡ true) }
+{
+    if lies_alike(windows, slot, place, size) {
+        return Ok(());
+    }
+    windows.rearrange.insert(slot.master)?;
+    Ok(())
+}
+
+/// Where the window at a place is packed.
+fn slot_at(windows: &KeptWindows, place: usize) -> Option<Slot>
+    ensures found { (slot : Slot) → slice_get windows.now.slots.items place ≡ Some (Some slot) → result ≡ Some slot }
+    ensures there { IfSome result (λ slot. slice_get windows.now.slots.items place ≡ Some (Some slot)) }
+{
+    match windows.slots.get(place) {
+        Some(slot) => *slot,
+        None => None,
+    }
+}
+
+/// The size of a window is still to be looked at, unless it is the main window, the first: what that asks for decides nothing.
+fn mark_size(resize: &mut BTreeSet<usize>, place: usize) -> Result<(), AllocError>
+    ensures here { OnOk result (0 < place → contains nat_cmp resize.new place ≡ true) }
+    ensures more { (q : ℕ) → contains nat_cmp resize.old q ≡ true → contains nat_cmp resize.new q ≡ true }
+    ensures only { (q : ℕ) → contains nat_cmp resize.new q ≡ true → (q ≡ place) ⊎ (contains nat_cmp resize.old q ≡ true) }
+{
+    if place == 0 {
+        return Ok(());
+    }
+    resize.insert(place)?;
+    Ok(())
+}
+
+/// The size of a window's master is still to be looked at, and the places of the master's slaves, if that the window asks for a size may move one of them.
+fn mark_slot(
+    windows: &mut KeptWindows,
+    slot: Slot,
+    place: usize,
+    size: (u32, u32),
+) -> Result<(), AllocError>
+    requires standing { IsStanding (standing_of windows.old) }
+    requires slot { slice_get windows.old.slots.items place ≡ Some (Some slot) }
+    ensures standing { IsStanding (standing_of windows.new) }
+    ensures parts { standing_of windows.new
+        ≡ record (standing_of windows.old) { resize = contains nat_cmp windows.new.resize; rearrange = contains nat_cmp windows.new.rearrange } }
+    ensures waits { OnOk result (MasterWaits (standing_of windows.new) place size) }
+    ensures more { (q : ℕ) → contains nat_cmp windows.old.resize q ≡ true → contains nat_cmp windows.new.resize q ≡ true }
+    ensures only { (q : ℕ) → contains nat_cmp windows.new.resize q ≡ true → (q < place) ⊎ (contains nat_cmp windows.old.resize q ≡ true) }
+{
+    mark_size(&mut windows.resize, slot.master)?;
+    mark_places(windows, slot, place, size)?;
+    Ok(())
+}
+
+/// The same of a window that may be packed nowhere.
+fn mark_master(windows: &mut KeptWindows, place: usize, size: (u32, u32)) -> Result<(), AllocError>
     requires { IsStanding (standing_of windows.old) }
     ensures standing { IsStanding (standing_of windows.new) }
     ensures parts { standing_of windows.new
         ≡ record (standing_of windows.old) { resize = contains nat_cmp windows.new.resize; rearrange = contains nat_cmp windows.new.rearrange } }
-    ensures waits { OnOk result (MasterWaits (standing_of windows.new) place) }
+    ensures waits { OnOk result (MasterWaits (standing_of windows.new) place size) }
     ensures more { (q : ℕ) → contains nat_cmp windows.old.resize q ≡ true → contains nat_cmp windows.new.resize q ≡ true }
     ensures only { (q : ℕ) → contains nat_cmp windows.new.resize q ≡ true → (q < place) ⊎ (contains nat_cmp windows.old.resize q ≡ true) }
 {
-    if let Some(Some(slot)) = windows.slots.get(place) {
-        let master = slot.master;
-        windows.resize.insert(master)?;
-        windows.rearrange.insert(master)?;
+    match slot_at(windows, place) {
+        Some(slot) => mark_slot(windows, slot, place, size),
+        None => Ok(()),
     }
-    Ok(())
 }
 
 /// A window asks for a size from now on, and needn't be looked at for that. Where it is another than before, its master has to be.
@@ -103,7 +167,7 @@ fn note_size(windows: &mut KeptWindows, place: usize, size: (u32, u32)) -> Resul
         windows.resize.remove(&place);
         return Ok(());
     }
-    mark_master(windows, place)?;
+    mark_master(windows, place, size)?;
     put_size(&mut windows.asked, place, size);
     windows.resize.remove(&place);
     Ok(())

@@ -1,5 +1,5 @@
 ghost use Rattle.std.specs.Prelude.{◌≡◌, ◌≢◌, ℕ, [], insert, IfOk, OnOk, OnErr};
-ghost use Rattle.tk_packer.specs.Packs.{with_packed, without_packed, without_window, with_propagation, propagates_in, without, slaves_of, request_in, wins_of};
+ghost use Rattle.tk_packer.specs.Packs.{no_packs, with_packed, without_packed, without_window, with_propagation, propagates_in, without, slaves_of, request_in, wins_of};
 ghost use Rattle.tk_packer.specs.Shared.{own_of, LeavesOthers};
 
 use crate::Request;
@@ -120,6 +120,17 @@ impl PackTable {
         match self.owners.get(&master.owner) {
             Some(own) => own.slaves(master.number),
             None => &[],
+        }
+    }
+
+    /// What an application has packed, if that is kept; otherwise nothing. It takes no memory.
+    pub(crate) fn own_or<'a>(&'a self, owner: usize, nothing: &'a OwnPacks) -> &'a OwnPacks
+        requires { nothing.now ≡ no_packs }
+        ensures { result.now ≡ own_of owner self.now }
+    {
+        match self.owners.get(&owner) {
+            Some(own) => own,
+            None => nothing,
         }
     }
 

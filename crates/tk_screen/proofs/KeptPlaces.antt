@@ -1,6 +1,9 @@
 -- A kept layout lays windows out as the layout from nothing does.
 use Rattle.std.proofs.Common.{◌≡◌, ℕ, zero, suc, Bool, true, false, List, [], ◌∷◌, Option, Some, refl, sym, ap, ◌∙◌, subst}
-use Rattle.std.specs.Prelude.{◌==◌, IfSome, if◌then◌else◌, map, slice_get}
+use Rattle.std.specs.Prelude.{◌==◌, IfSome, if◌then◌else◌, map, nat_eq, slice_get}
+use Rattle.std.specs.BTreeSet.{contains}
+use Rattle.std.specs.Map.{lookup}
+use Rattle.std.specs.Ordering.{nat_cmp}
 use Rattle.std.proofs.lemmas.Bool.{eq-eqb, eqb-true}
 use Rattle.tcl_vars.specs.Store.{Store}
 use Rattle.tk_base.specs.declared.rect.Rect.{Rect}
@@ -11,17 +14,20 @@ use Rattle.tk_packer.specs.declared.shape.Shape.{Shape}
 use Rattle.tk_packer.specs.Layout.{layout}
 use Rattle.tk_packer.specs.Packs.{slaves_of}
 use Rattle.tk_packer.specs.Standing.{Inputs, packed_in, places_by}
+use Rattle.tk_packer.proofs.Gets.{none_some}
 use Rattle.tk_packer.proofs.Inputs.{told_of}
 use Rattle.tk_packer.proofs.Shown.{layouts_agree}
 use Rattle.tk_tree.proofs.Lists.{some_same}
 use Rattle.tk_tree.specs.Own.{IsSound}
 use Rattle.tk_screen.specs.Layout.{changes_due, laid_out_windowing, size_of}
 use Rattle.tk_screen.specs.Own.{Windowing}
-use Rattle.tk_screen.specs.Reads.{IsKept, IsOneOf, Reads}
-use Rattle.tk_screen.specs.Seen.{AreAlike, IsSeen}
+use Rattle.tk_screen.specs.declared.marks.Mark.{Mark}
+use Rattle.tk_screen.specs.Reads.{IsKept, IsOneOf, Reads, StillHolds}
+use Rattle.tk_screen.specs.Seen.{AreAlike, IsMarked, IsSeen, IsSettled, Rests}
 use Rattle.tk_screen.specs.Shapes.{pre_order, shapes}
 use Rattle.tk_screen.proofs.Alike.{first_seen, laid_alike, laid_numbers, untouched}
-use Rattle.tk_screen.proofs.Twice.{laid_seen}
+use Rattle.tk_screen.proofs.Looking.{seen_now}
+use Rattle.tk_screen.proofs.Twice.{laid_seen, laid_twice}
 
 -- ── what is packed ──
 
@@ -97,8 +103,28 @@ module _ (own : Windowing) (store : Store) (touched : ℕ → Bool) (reads : Rea
         (laid_alike touched (IsKept own store reads) (shapes own store) places alike_now));
   }
 
--- an application that was laid out with the windows packed that are
-pub packed_now : (own : Windowing) (store : Store) (touched : ℕ → Bool) (reads : Reads) (kept : Inputs) → IsSeen (laid_out_windowing own store) own.packs.packs store touched reads kept
-    → (packed : List Packed) × ((false ≡ false → packed ≡ (laid_out_windowing own store).packs.packs) × IsSeen (laid_out_windowing own store) packed store touched reads kept)
+-- and changes nothing more
+pub settled_laid : (own : Windowing) (store : Store) (touched : ℕ → Bool) (reads : Reads) (kept : Inputs) (seen : IsSeen own own.packs.packs store touched reads kept) → ((n : ℕ) → touched n ≡ false)
+    → IsSound own.tree → (new : Inputs) → new ≡ record kept { shapes = laid_out_shapes kept.shapes (places_by kept) } → IsSettled new
 unfolding laid_out_windowing
-packed_now own store touched reads kept seen = (own.packs.packs, ((λ same. refl), seen))
+settled_laid own store touched reads kept seen none sound new is =
+    same_changes (laid_out_windowing own store) store touched reads new (seen_laid own store touched reads kept seen none sound new is) none (changes_of new.shapes (places_by new)) refl
+    ∙ laid_twice own store sound
+
+-- an application that was laid out with the windows packed that are
+pub packed_now : (own : Windowing) (store : Store) (touched : ℕ → Bool) (reads : Reads) (kept : Inputs) → IsSeen (laid_out_windowing own store) own.packs.packs store touched reads kept → IsSettled kept
+    → (packed : List Packed) × ((false ≡ false → packed ≡ (laid_out_windowing own store).packs.packs) × IsSeen (laid_out_windowing own store) packed store touched reads kept × IsSettled kept)
+unfolding laid_out_windowing
+packed_now own store touched reads kept seen settled = (own.packs.packs, ((λ same. refl), seen, settled))
+
+-- an application whose mark has nothing to look at is laid out
+pub nothing_due : (own : Windowing) (store : Store) (mark : Mark) → IsMarked mark own → Rests mark → changes_due own store ≡ []
+nothing_due own store mark marked rests =
+    let touched = contains nat_cmp mark.touched in
+    let seen : IsSeen own own.packs.packs marked.0 touched mark.reads.entries mark.layout =
+    subst (λ (packed : List Packed). IsSeen own packed marked.0 touched mark.reads.entries mark.layout) (marked.1.1.0 rests.repacked) marked.1.1.1 in
+    let now = seen_now own own.packs.packs marked.0 store touched touched mark.reads.entries (λ n fresh. (fresh, none_read n mark.reads.entries rests.reads)) mark.layout seen in
+    sym (same_changes own store touched mark.reads.entries mark.layout now rests.touched (changes_of mark.layout.shapes (places_by mark.layout)) refl) ∙ marked.1.1.2
+  where
+    none_read : (n : ℕ) (reads : Reads) → reads ≡ [] → StillHolds store reads n
+    none_read n reads none read found = absurd (none_some read (ap (lookup (nat_eq n)) (sym none) ∙ found))

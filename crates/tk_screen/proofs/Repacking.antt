@@ -14,7 +14,7 @@ use Rattle.tk_screen.specs.declared.screen.Screen.{Screen}
 use Rattle.tk_screen.specs.Marks.{mark_of, IsRepacked, IsRepackedMark, LeavesOtherMarks}
 use Rattle.tk_screen.specs.Own.{Windowing}
 use Rattle.tk_screen.specs.Reads.{IsKept, Reads}
-use Rattle.tk_screen.specs.Seen.{AllMarked, AreAlike, IsMarked, IsSeen, IsWith}
+use Rattle.tk_screen.specs.Seen.{AllMarked, AreAlike, IsMarked, IsSeen, IsSettled, IsWith}
 use Rattle.tk_screen.specs.Shapes.{shape_of, shapes}
 use Rattle.tk_screen.specs.Shared.{own_of, LeavesOthers}
 use Rattle.tk_screen.specs.Touch.{IsPacking}
@@ -59,6 +59,7 @@ marked_packed own later old new packing is marked =
               (subst (λ (l : Inputs). IsSeen now packed marked.0 (contains nat_cmp new.touched) new.reads.entries l) (sym is.layout)
               (subst (λ (r : Reads). IsSeen now packed marked.0 (contains nat_cmp new.touched) r old.layout) (sym is.reads)
               (subst (λ (t : BTreeSet ℕ). IsSeen now packed marked.0 (contains nat_cmp t) old.reads.entries old.layout) (sym is.touched) seen))),
+          subst IsSettled (sym is.layout) marked.1.1.2,
         ),
       ),
     )

@@ -22,7 +22,7 @@ use Rattle.tk_screen.specs.declared.screen.Screen.{Screen}
 use Rattle.tk_screen.specs.Marks.{mark_of, IsTouched, IsTouchedMark, LeavesOtherMarks}
 use Rattle.tk_screen.specs.Own.{Windowing}
 use Rattle.tk_screen.specs.Reads.{IsKept, Reads, read_at, read_of}
-use Rattle.tk_screen.specs.Seen.{AllMarked, IsMarked, IsSeen}
+use Rattle.tk_screen.specs.Seen.{AllMarked, IsMarked, IsSeen, IsSettled}
 use Rattle.tk_screen.specs.Shapes.{pre_order, shape_at, shape_by, shape_of, shapes}
 use Rattle.tk_screen.specs.Shared.{own_of, LeavesOthers}
 use Rattle.tk_screen.specs.Touch.{IsTouch}
@@ -74,6 +74,7 @@ marked_touched number own later old new touch is marked =
           subst (λ (w : Windowing). IsSeen w packed marked.0 (contains nat_cmp new.touched) new.reads.entries new.layout) (sym touch.1)
               (subst (λ (l : Inputs). IsSeen (record own { widgets = touch.0 }) packed marked.0 (contains nat_cmp new.touched) new.reads.entries l) (sym is.layout)
               (subst (λ (r : Reads). IsSeen (record own { widgets = touch.0 }) packed marked.0 (contains nat_cmp new.touched) r old.layout) (sym is.reads) seen)),
+          subst IsSettled (sym is.layout) marked.1.1.2,
         ),
       ),
     )

@@ -3,10 +3,11 @@ use Rattle.std.specs.Prelude.{◌≡◌, ℕ, Bool, true, false, List, [], ◌�
 use Rattle.std.specs.BTreeSet.{contains}
 use Rattle.std.specs.Ordering.{nat_cmp}
 use Rattle.tcl_vars.specs.Store.{Store}
+use Rattle.tk_packer.specs.Changes.{changes_of}
 use Rattle.tk_packer.specs.declared.packed.Packed.{Packed}
 use Rattle.tk_packer.specs.declared.shape.Shape.{Shape}
 use Rattle.tk_packer.specs.Packs.{slaves_of}
-use Rattle.tk_packer.specs.Standing.{Inputs, with_shape}
+use Rattle.tk_packer.specs.Standing.{Inputs, places_by, with_shape}
 use Rattle.tk_screen.specs.declared.screen.Screen.{Screen}
 use Rattle.tk_screen.specs.Layout.{size_of}
 use Rattle.tk_screen.specs.Own.{Windowing}
@@ -31,11 +32,21 @@ pub record IsSeen (own : Windowing) (packed : List Packed) (store : Store) (touc
   pub packs : layout.packs ≡ map (λ shape. slaves_of shape.number packed) layout.shapes
   pub alike : AreAlike touched (IsKept own store reads) layout.shapes (shapes own store)
 
--- a mark's layout was made so, with the variables of then, and with those windows packed that are, unless others may be packed since
+-- a layout by which no window lies elsewhere than where it was laid out last
+abbrev pub IsSettled : Inputs → Type 0
+IsSettled layout = changes_of layout.shapes (places_by layout) ≡ []
+
+-- a mark's layout was made so, with the variables of then, and with those windows packed that are, unless others may be packed since; and it was laid out
 abbrev pub IsMarked : Mark → Windowing → Type 0
 IsMarked mark own =
     (store : Store) × ((packed : List Packed) × ((mark.repacked ≡ false → packed ≡ own.packs.packs)
-    × IsSeen own packed store (contains nat_cmp mark.touched) mark.reads.entries mark.layout))
+    × IsSeen own packed store (contains nat_cmp mark.touched) mark.reads.entries mark.layout × IsSettled mark.layout))
+
+-- a mark by which nothing is to be looked at, whatever the variables are
+pub record Rests (mark : Mark) : Type 0 where
+  pub repacked : mark.repacked ≡ false
+  pub touched : (number : ℕ) → contains nat_cmp mark.touched number ≡ false
+  pub reads : mark.reads.entries ≡ []
 
 -- so it is for each application that has a mark
 abbrev pub AllMarked : Marks → Screen → Type 0

@@ -1,4 +1,5 @@
-ghost use Rattle.std.specs.Prelude.{◌≡◌, ℕ, [], None, IfOk, IsSome, OnErr, OnOk};
+ghost use Rattle.std.specs.Prelude.{◌≡◌, ℕ, true, [], None, IfOk, IsSome, OnErr, OnOk};
+ghost use Rattle.tcl_vars.specs.Store.{Store};
 ghost use Rattle.tk_screen.specs.Marks.{mark_of, IsPutOrNone, LeavesOtherMarks};
 ghost use Rattle.tk_screen.specs.Seen.{AllMarked};
 ghost use Rattle.tk_screen.specs.Layout.{changes_due, laid_out_windowing};
@@ -83,8 +84,36 @@ impl MarkedScreen {
     /// Lays out the windows of an application with the texts that variables have now, and answers what that changes, in the order of the windows,
     /// each before its children: for each that is changed Unmap, Configure and Map, of these what applies. Where memory is refused no window is
     /// changed. Where it was laid out before, those windows alone are looked at that were touched since, or show a variable whose text is another.
-    #[tactic(auto, using(crate::proofs::KeptMarks::kept, crate::proofs::KeptMarks::mark_here))]
     pub fn lay_out(
+        &mut self,
+        alloc: Global,
+        slot: usize,
+        scopes: &Scopes,
+    ) -> Result<Vec<PlaceChange>, AllocError>
+        ensures changes { IfOk result (λ changes. changes.items ≡ changes_due (own_of slot self.old) scopes.now) }
+        ensures own { OnOk result (own_of slot self.new ≡ laid_out_windowing (own_of slot self.old) scopes.now) }
+        ensures others { LeavesOthers slot self.old self.new }
+        ensures err { OnErr result (own_of slot self.new ≡ own_of slot self.old) }
+    {
+        if self.is_laid_out(slot) {
+            return Ok(Vec::new(alloc));
+        }
+        self.lay_out_due(alloc, slot, scopes)
+    }
+
+    /// Whether nothing is to be laid out, whatever the variables are; where there is it may answer either. It takes no memory.
+    fn is_laid_out(&self, slot: usize) -> bool
+        ensures { result ≡ true → (store : Store) → changes_due (own_of slot self.now) store ≡ [] }
+    {
+        match self.marks.of(slot) {
+            Some(mark) => mark.rests(),
+            None => false,
+        }
+    }
+
+    /// Lays out what may lie elsewhere.
+    #[tactic(auto, using(crate::proofs::KeptMarks::kept, crate::proofs::KeptMarks::mark_here))]
+    fn lay_out_due(
         &mut self,
         alloc: Global,
         slot: usize,

@@ -1,5 +1,5 @@
 //! The marks of applications.
-ghost use Rattle.std.specs.Prelude.{◌≡◌, ◌≢◌, ℕ, None, Some, OnErr, OnOk};
+ghost use Rattle.std.specs.Prelude.{◌≡◌, ◌≢◌, ℕ, true, None, Some, OnErr, OnOk};
 ghost use Rattle.std.specs.Option.{option_copied};
 ghost use Rattle.tk_screen.specs.Marks.{mark_of, IsRepacked, IsRepackedMark, IsTouched, IsTouchedMark, LeavesOtherMarks};
 
@@ -19,6 +19,17 @@ pub struct Mark {
     /// Whether other windows may be packed since, or packed otherwise.
     pub repacked: bool,
     pub layout: KeptLayout,
+}
+
+impl Mark {
+    ghost use Rattle.tk_screen.specs.Seen.{Rests};
+
+    /// Whether nothing is to be looked at, whatever the variables are. It takes no memory.
+    pub fn rests(&self) -> bool
+        ensures { result ≡ true → Rests self.now }
+    {
+        !self.repacked && self.touched.is_empty() && self.reads.is_empty()
+    }
 }
 
 /// The marks of all applications. `slot` is an application's number.
@@ -51,6 +62,13 @@ impl Marks {
         ensures others { LeavesOtherMarks slot self.old self.new }
     {
         self.rows.remove(&slot)
+    }
+
+    /// The mark of an application, if it has one. It takes no memory.
+    pub fn of(&self, slot: usize) -> Option<&Mark>
+        ensures { option_copied result ≡ mark_of slot self.now }
+    {
+        self.rows.get(&slot)
     }
 
     /// A window of an application may look otherwise than when it was laid out. Where memory is refused the mark goes.

@@ -7,3 +7,4 @@ pub mod OnceLemmas
 pub mod PairLemmas
 pub mod SameLemmas
 pub mod SeveralLemmas
+pub mod WrittenBack

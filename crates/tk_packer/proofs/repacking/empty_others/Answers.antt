@@ -1,7 +1,7 @@
 use Rattle.std.proofs.Common.{◌≡◌, length, refl, ap, ◌∙◌, arith}
 use Rattle.std.specs.BTreeSet.{contains}
 use Rattle.std.specs.Ordering.{nat_cmp}
-use Rattle.tk_packer.specs.Groups.{slaves_in}
+use Rattle.tk_packer.specs.Groups.{slaves_by}
 use Rattle.tk_packer.proofs.Emptying.{none_waits}
 use Rattle.tk_packer.proofs.Sets.{has}
 use Rattle.tk_packer.proofs.repacking.empty_others.Goals as goal
@@ -12,7 +12,7 @@ loop-place-init c = record {
   size = refl;
   shapes = refl;
   packs =
-      none_waits (contains nat_cmp c.new-emptied.result) (slaves_in c.args.owner c.args.packs.now) c.args.windows.now.shapes.items c.args.windows.now.slaves.items
+      none_waits (contains nat_cmp c.new-emptied.result) (slaves_by c.args.own.now) c.args.windows.now.shapes.items c.args.windows.now.slaves.items
       (λ q. ap (has q) c.new-emptied.ensures.empty);
 }
 

@@ -1,7 +1,7 @@
 use Rattle.std.proofs.Common.{◌≡◌}
 use Rattle.std.specs.BTreeSet.{contains}
 use Rattle.std.specs.Ordering.{nat_cmp}
-use Rattle.tk_packer.specs.Groups.{slaves_in}
+use Rattle.tk_packer.specs.Groups.{slaves_by}
 use Rattle.tk_packer.specs.Standing.{ArePackedBut, IsStanding, standing_of}
 use Rattle.tk_packer.proofs.repacking.empty_others.Given as goal
 
@@ -11,5 +11,5 @@ invariant-loop-place l = record {
   standing : IsStanding (standing_of l.windows);
   size : l.windows.size ≡ l.initial.windows.size;
   shapes : l.windows.shapes.items ≡ l.initial.windows.shapes.items;
-  packs : ArePackedBut (contains nat_cmp l.emptied) (slaves_in l.owner l.packs) l.place l.windows.shapes.items l.windows.slaves.items;
+  packs : ArePackedBut (contains nat_cmp l.emptied) (slaves_by l.own) l.place l.windows.shapes.items l.windows.slaves.items;
 }

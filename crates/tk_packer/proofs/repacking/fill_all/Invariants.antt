@@ -1,7 +1,7 @@
 use Rattle.std.proofs.Common.{◌≡◌, length}
 use Rattle.std.specs.BTreeSet.{contains}
 use Rattle.std.specs.Ordering.{nat_cmp}
-use Rattle.tk_packer.specs.Groups.{slaves_in}
+use Rattle.tk_packer.specs.Groups.{slaves_by}
 use Rattle.tk_packer.specs.Standing.{ArePackedBut, IsStanding, standing_of}
 use Rattle.tk_packer.proofs.repacking.fill_all.Given as goal
 
@@ -12,7 +12,7 @@ invariant-loop-place l = record {
   size : l.windows.size ≡ l.initial.windows.size;
   shapes : l.windows.shapes.items ≡ l.initial.windows.shapes.items;
   packs :
-      ArePackedBut (contains nat_cmp l.emptied) (slaves_in l.owner l.packs) (length l.windows.shapes.items) l.windows.shapes.items l.windows.slaves.items;
+      ArePackedBut (contains nat_cmp l.emptied) (slaves_by l.own) (length l.windows.shapes.items) l.windows.shapes.items l.windows.slaves.items;
 }
 
 abbrev pub decreases-loop-place : goal.decreases-loop-place

@@ -3,7 +3,7 @@ use Rattle.std.specs.BTreeSet.{contains}
 use Rattle.std.specs.Ordering.{nat_cmp}
 use Rattle.tk_packer.proofs.Sets.{has}
 use Rattle.tk_screen.specs.Shared.{own_of}
-use Rattle.tk_screen.proofs.KeptPlaces.{packed_now, same_changes, seen_first, seen_laid}
+use Rattle.tk_screen.proofs.KeptPlaces.{packed_now, same_changes, seen_first, seen_laid, settled_laid}
 use Rattle.tk_screen.proofs.layout.changes_anew.Goals as goal
 
 pub returns-clause-changes : goal.returns-clause-changes
@@ -25,5 +25,6 @@ returns-clause-marked c =
     c.size_of-size.ensures c.in_ok-shapes.ensures.shapes c.in_ok-shapes.ensures.reads in (
       store,
       packed_now own store touched found.reads.entries c.lay_out.new.self
-          (seen_laid own store touched found.reads.entries c.in-Some.layout seen (λ n. ap (has n) c.new-2.ensures.empty) c.requires c.lay_out.new.self c.in_ok-changes.ensures.own),
+          (seen_laid own store touched found.reads.entries c.in-Some.layout seen (λ n. ap (has n) c.new-2.ensures.empty) c.requires c.lay_out.new.self c.in_ok-changes.ensures.own)
+          (settled_laid own store touched found.reads.entries c.in-Some.layout seen (λ n. ap (has n) c.new-2.ensures.empty) c.requires c.lay_out.new.self c.in_ok-changes.ensures.own),
     )

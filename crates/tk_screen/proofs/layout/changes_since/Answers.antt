@@ -1,7 +1,7 @@
 use Rattle.std.specs.BTreeSet.{contains}
 use Rattle.std.specs.Ordering.{nat_cmp}
 use Rattle.tk_screen.specs.Shared.{own_of}
-use Rattle.tk_screen.proofs.KeptPlaces.{packed_now, same_changes, seen_laid}
+use Rattle.tk_screen.proofs.KeptPlaces.{packed_now, same_changes, seen_laid, settled_laid}
 use Rattle.tk_screen.proofs.Looking.{seen_now}
 use Rattle.tk_screen.proofs.Repacking.{seen_with}
 use Rattle.tk_packer.proofs.Inputs.{told_of}
@@ -30,5 +30,6 @@ returns-clause-marked c =
     let known = c.in_ok-look_at_all.ensures in (
       c.args.scopes.now,
       packed_now (own_of c.args.slot c.args.screen.now) c.args.scopes.now (contains nat_cmp looked.touched) looked.reads.entries c.lay_out.new.self
-          (seen_laid (own_of c.args.slot c.args.screen.now) c.args.scopes.now (contains nat_cmp looked.touched) looked.reads.entries looked.layout known.seen known.none c.requires.sound c.lay_out.new.self c.in_ok-changes.ensures.own),
+          (seen_laid (own_of c.args.slot c.args.screen.now) c.args.scopes.now (contains nat_cmp looked.touched) looked.reads.entries looked.layout known.seen known.none c.requires.sound c.lay_out.new.self c.in_ok-changes.ensures.own)
+          (settled_laid (own_of c.args.slot c.args.screen.now) c.args.scopes.now (contains nat_cmp looked.touched) looked.reads.entries looked.layout known.seen known.none c.requires.sound c.lay_out.new.self c.in_ok-changes.ensures.own),
     )

@@ -1,7 +1,10 @@
-use Rattle.tk_screen.proofs.KeptMarks.{laid_marked}
+use Rattle.std.proofs.Common.{◌∙◌, sym}
+use Rattle.tk_screen.specs.Shared.{own_of}
+use Rattle.tk_screen.proofs.Twice.{nothing_laid}
 use Rattle.tk_screen.proofs.marked.MarkedScreen.lay_out.Goals as goal
 
-pub invariant_of-self-2 : goal.invariant_of-self-2
-invariant_of-self-2 c =
-    laid_marked c.args.slot c.self.inside.marks c.take-mark.new.self c.put_mark.new.marks c.self.inside.screen c.lay_out.new.screen c.in_ok-changes.field-0.mark c.self.invariant
-    c.take-mark.ensures.others c.put_mark.ensures.others c.lay_out.ensures.others c.put_mark.ensures.own c.in_ok-changes.ensures.marked
+pub returns-then-is_laid_out-clause-changes : goal.returns-then-is_laid_out-clause-changes
+returns-then-is_laid_out-clause-changes c = c.new.ensures.items ∙ sym (c.is_laid_out.ensures c.if-is_laid_out.true c.args.scopes.now)
+
+pub returns-then-is_laid_out-clause-own : goal.returns-then-is_laid_out-clause-own
+returns-then-is_laid_out-clause-own c = sym (nothing_laid (own_of c.args.slot c.args.self.now) c.args.scopes.now (c.is_laid_out.ensures c.if-is_laid_out.true c.args.scopes.now))

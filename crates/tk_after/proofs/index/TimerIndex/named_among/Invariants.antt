@@ -3,7 +3,7 @@ use Rattle.std.specs.Prelude.{find}
 use Rattle.std.specs.Str.{bytes_eq}
 use Rattle.tk_after.specs.After.{name_of}
 use Rattle.tk_after.specs.Keys.{Mark, marks_in, marks_of}
-use Rattle.tk_after.proofs.index.TimerIndex.named.Given as goal
+use Rattle.tk_after.proofs.index.TimerIndex.named_among.Given as goal
 
 -- the first of the rest is the first of all
 abbrev pub invariant-loop-name : goal.invariant-loop-name

@@ -100,5 +100,5 @@ fn copied(alloc: Global, words: &[Text]) -> Result<Scripts, AllocError>
     for word in words {
         copies.push(word.copy()?)?;
     }
-    Scripts::of(alloc, copies)
+    Ok(Scripts::of(copies))
 }

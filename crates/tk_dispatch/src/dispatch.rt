@@ -56,11 +56,30 @@ pub fn scripts_for(
         return Ok(Ok(TextList::new(alloc)));
     };
     let tags = window.tags.as_slice();
-    let virtuals = virtuals.of(win.owner);
+    scripts_for_tags(
+        alloc, windows, bindings, virtuals, win.owner, tags, event, history,
+    )
+}
+
+/// The same for some binding tags, as those of a window that is at hand.
+pub fn scripts_for_tags(
+    alloc: Global,
+    windows: &Windows,
+    bindings: &BindTable,
+    virtuals: &VirtualTable,
+    owner: usize,
+    tags: &[Text],
+    event: &Event,
+    history: &History,
+) -> Result<Result<TextList, Text>, AllocError>
+    ensures { IfOk result (λ chosen. chosen ≡ scripts_of (windows_of.own_of owner windows.now)
+        (meanings_of (virtuals_of.own_of owner virtuals.now)) (bindings_of.own_of owner bindings.now) history.now event.now tags.now) }
+{
+    let virtuals = virtuals.of(owner);
     let choice = Choice {
         windows,
         bindings,
-        owner: win.owner,
+        owner,
         virtuals,
         event,
         history,

@@ -56,6 +56,9 @@ impl Histories {
         ensures others { LeavesOthers owner self.old self.new }
         ensures err { OnErr result (LeavesAll self.old self.new) }
     {
+        if !event.kind.is_input() {
+            return Ok(());
+        }
         if let Some(history) = self.owners.get_mut(&owner) {
             history.push(event);
             return Ok(());

@@ -17,7 +17,7 @@ mod queued;
 mod substitution;
 mod tag;
 
-pub use dispatch::scripts_for;
+pub use dispatch::{scripts_for, scripts_for_tags};
 pub use histories::Histories;
 pub use queue::EventQueue;
 pub use substitution::substitute;

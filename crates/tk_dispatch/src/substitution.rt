@@ -46,6 +46,28 @@ pub fn substitute(alloc: Global, script: &Text, event: &Event) -> Result<Text, T
     ensures ok { IfOk result (λ text. text ≡ substituted event.now script.now) }
     ensures too_long { IfErr result (λ fault. fault ≢ TextFault.NoMemory → most_bytes < length (substituted event.now script.now)) }
 {
+    if has_percent(script) {
+        substitute_fields(alloc, script, event)
+    } else {
+        Ok(script.copy()?)
+    }
+}
+
+/// Whether the script has a `%`. One without stays as it is.
+fn has_percent(script: &Text) -> bool
+    ensures { result ≡ false → (event : Event) → substituted event script.now ≡ script.now }
+{
+    match cut_percent(script.as_str()) {
+        Some(_) => true,
+        None => false,
+    }
+}
+
+/// The same, read from `%` to `%`.
+fn substitute_fields(alloc: Global, script: &Text, event: &Event) -> Result<Text, TextFault>
+    ensures ok { IfOk result (λ text. text ≡ substituted event.now script.now) }
+    ensures too_long { IfErr result (λ fault. fault ≢ TextFault.NoMemory → most_bytes < length (substituted event.now script.now)) }
+{
     let mut text = Text::empty();
     let mut rest = script.as_str();
     while let Some((run, behind)) = cut_percent(rest) {

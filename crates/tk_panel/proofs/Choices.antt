@@ -1,6 +1,6 @@
 -- What a choice of scripts leaves as it is.
-use Rattle.std.proofs.Common.{◌≡◌, ℕ, true, List, [], refl, sym, ap, ◌∙◌}
-use Rattle.std.specs.Prelude.{Option, Some, None, Ok, Err, is_some}
+use Rattle.std.proofs.Common.{◌≡◌, ℕ, List, [], option_map, refl, sym, ap, ◌∙◌}
+use Rattle.std.specs.Prelude.{Option, Some, None, Ok, Err}
 use Rattle.tk_dispatch.specs.Dispatch.{Chosen}
 use Rattle.tk_patterns.specs.History.{entered}
 use Rattle.tk_sequences.specs.declared.event.Event.{Event}
@@ -26,15 +26,16 @@ chosen_queue event panel = by_window event panel (window_at event.number panel.w
 
 -- ── a refused substitution ──
 
-at_window : (event : Event) (panel : Panel) (window : Option Window) → is_some window ≡ true → on_scripts event panel (scripts_of event panel) ≡ chosen_at event panel window
-at_window event panel None is = cc
-at_window event panel (Some window) is = refl
+refused_at : (event : Event) (panel : Panel) (text : List ℕ) (window : Option Window) → option_map (λ window. scripts_of event panel) window ≡ Some (Err text)
+    → on_scripts event panel (Err text) ≡ chosen_at event panel window
+refused_at event panel text None is = cc
+refused_at event panel text (Some window) is = let same : scripts_of event panel ≡ Err text = cc in ap (on_scripts event panel) (sym same)
 
-pub chosen_refused : (event : Event) (panel told : Panel) (history : List Event) (text : List ℕ) → is_some (window_at event.number panel.windowing.tree) ≡ true → scripts_of event panel ≡ Err text
+pub chosen_refused : (event : Event) (panel told : Panel) (history : List Event) (text : List ℕ)
+    → option_map (λ window. scripts_of event panel) (window_at event.number panel.windowing.tree) ≡ Some (Err text)
     → told ≡ with_line Errors text panel → history ≡ entered event told.history → (record told { history = history }, []) ≡ chosen event panel
 unfolding chosen
-chosen_refused event panel told history text is refused tells enters =
+chosen_refused event panel told history text refused tells enters =
     ap (λ h. (record told { history = h }, [])) enters
     ∙ ap (λ (p : Panel). (with_entered event p, [])) tells
-    ∙ ap (on_scripts event panel) (sym refused)
-    ∙ at_window event panel (window_at event.number panel.windowing.tree) is
+    ∙ refused_at event panel text (window_at event.number panel.windowing.tree) refused

@@ -1,5 +1,6 @@
 //! The scripts that an event runs (bind(n), bindtags(n)).
-ghost use Rattle.std.specs.Prelude.{◌≡◌, IfOk};
+ghost use Rattle.std.specs.Prelude.{◌≡◌, IfOk, option_map};
+ghost use Rattle.tk_tree.specs.Own.{window_at};
 ghost use Rattle.tk_panel.specs.Choice.{chosen, scripts_of};
 ghost use Rattle.tk_panel.specs.Shared.{LeavesOthers, panel_of};
 
@@ -10,27 +11,35 @@ use crate::transcript::Stream;
 use std::alloc::AllocError;
 use tcl_text::{Text, TextList};
 use tk_base::Win;
-use tk_dispatch::scripts_for;
+use tk_dispatch::scripts_for_tags;
 use tk_sequences::Event;
 
-/// The scripts of an event of a window that is there, or the text of a refused substitution.
-fn scripts_of(
+/// The scripts of an event of a window, or the text of a refused substitution; none where the window is gone.
+#[tactic(auto, unfolding(tk_dispatch::specs::Dispatch::scripts_for))]
+fn scripts_at(
     tables: &Tables,
     win: Win,
     event: &Event,
-) -> Result<Result<TextList, Text>, AllocError>
+) -> Result<Option<Result<TextList, Text>>, AllocError>
     requires { win.number ≡ event.now.number }
-    ensures { IfOk result (λ scripts. scripts ≡ scripts_of event.now (panel_of win.owner tables.now)) }
+    ensures { IfOk result (λ scripts. scripts ≡ option_map (λ window. scripts_of event.now (panel_of win.owner tables.now))
+        (window_at event.now.number (panel_of win.owner tables.now).windowing.tree)) }
 {
-    scripts_for(
+    let windows = &tables.screen.shown().windows;
+    let Some(window) = windows.window(win) else {
+        return Ok(None);
+    };
+    let scripts = scripts_for_tags(
         tables.alloc,
-        &tables.screen.shown().windows,
+        windows,
         &tables.bindings,
         &tables.virtuals,
-        win,
+        win.owner,
+        window.tags.as_slice(),
         event,
         tables.histories.of(win.owner),
-    )
+    )?;
+    Ok(Some(scripts))
 }
 
 /// An event comes to its window: the scripts that are to run for it, in order. A refused substitution is told (4), and no script runs then. An event of
@@ -44,16 +53,14 @@ pub fn choose(tables: &mut Tables, slot: usize, event: Event) -> Result<Scripts,
         owner: slot,
         number: event.number,
     };
-    if !tables.screen.shown().windows.holds(win) {
-        return Ok(Scripts::none(tables.alloc));
-    }
-    match scripts_of(tables, win, &event)? {
-        Ok(scripts) => {
-            let scripts = Scripts::of(tables.alloc, scripts.into_vec())?;
+    match scripts_at(tables, win, &event)? {
+        None => Ok(Scripts::none(tables.alloc)),
+        Some(Ok(scripts)) => {
+            let scripts = Scripts::of(scripts.into_vec());
             tables.histories.push(slot, event)?;
             Ok(scripts)
         }
-        Err(text) => {
+        Some(Err(text)) => {
             write(tables, slot, Stream::Err, text)?;
             tables.histories.push(slot, event)?;
             Ok(Scripts::none(tables.alloc))

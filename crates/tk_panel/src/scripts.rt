@@ -1,7 +1,7 @@
-ghost use Rattle.std.specs.Prelude.{◌≡◌, [], ◌∷◌, IfOk, MatchOption, slice_get};
+ghost use Rattle.std.specs.Prelude.{◌≡◌, [], ◌∷◌, MatchOption, slice_get};
 ghost use Rattle.std.specs.Option.{option_copied};
 
-use std::alloc::{AllocError, Global};
+use std::alloc::Global;
 use std::collections::VecDeque;
 use std::marker::Model;
 use tcl_text::Text;
@@ -30,15 +30,13 @@ impl Scripts {
         }
     }
 
-    /// These.
-    pub fn of(alloc: Global, texts: Vec<Text>) -> Result<Scripts, AllocError>
-        ensures { IfOk result (λ scripts. scripts ≡ texts.items) }
+    /// These. It takes no memory.
+    pub fn of(texts: Vec<Text>) -> Scripts
+        ensures { result ≡ texts.items }
     {
-        let mut all = VecDeque::new(alloc);
-        for text in texts {
-            all.push_back(text)?;
+        Scripts {
+            texts: VecDeque::from(texts),
         }
-        Ok(Scripts { texts: all })
     }
 
     /// Takes the next of them; none where none is left. It takes no memory.

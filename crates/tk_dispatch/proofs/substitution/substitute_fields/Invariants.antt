@@ -1,6 +1,6 @@
 use Rattle.std.proofs.Common.{◌≡◌, ◌++◌, false, length, IsUtf8}
 use Rattle.tk_dispatch.specs.Substitution.{substituted_from}
-use Rattle.tk_dispatch.proofs.substitution.substitute.Given as goal
+use Rattle.tk_dispatch.proofs.substitution.substitute_fields.Given as goal
 
 -- what is written, with what the rest stands for
 abbrev pub invariant-loop-run : goal.invariant-loop-run

@@ -2,7 +2,7 @@ use Rattle.std.proofs.Common.{◌≡◌, ◌<◌, ◌++◌, ℕ, List, false, le
 use Rattle.std.proofs.lemmas.Result.{err_from_is_err_and}
 use Rattle.tk_dispatch.specs.Substitution.{substituted_from}
 use Rattle.tk_dispatch.proofs.Runs.{as_steps, as_steps_long, step, run_long, behind_long}
-use Rattle.tk_dispatch.proofs.substitution.substitute.Goals as goal
+use Rattle.tk_dispatch.proofs.substitution.substitute_fields.Goals as goal
 
 pub returns-in_err-push_str-clause-too_long : goal.returns-in_err-push_str-clause-too_long
 returns-in_err-push_str-clause-too_long c =

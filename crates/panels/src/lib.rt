@@ -28,7 +28,7 @@ pub use dues::next_due;
 pub use ending::{Ending, Raised, Stand, Stopped};
 pub use finding::{Finding, Found};
 pub use isolation::{Neighbours, beside};
-pub use live::{Live, live_with};
+pub use live::{Live, live_panels};
 pub use pane::Miss;
 pub use playing::{BenchFault, Played, play, sections_with};
 pub use screen::{Screen, Spot};

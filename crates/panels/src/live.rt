@@ -7,18 +7,16 @@ ghost use Rattle.tk_host.specs.Held.{AdvanceTo, Call, LineAt, Start, held_after}
 ghost use Rattle.tk_host.specs.Refusals.{LeftBy};
 ghost use Rattle.tk_host.specs.Sections.{sections_after};
 ghost use Rattle.tkhost.specs.Calls.{adding};
-ghost use Rattle.tkhost.specs.Play.{MakesServices, Serve, services_in};
+ghost use Rattle.tkhost.specs.Play.{Serve, services_in};
 
 use crate::asking::asked;
 use crate::bench::{Answer, Question};
 use crate::playing::{BenchFault, started};
 use std::alloc::{AllocError, Global};
 use std::marker::Model;
-use tcl_text::Text;
-use tk_alias::Service;
-use tk_host::{AliasCode, AliasService, Closure, Host, HostFault, Turn};
-use tk_session::{EventLine, ServiceKind, Session};
-use tkhost::services_of;
+use tk_host::{AliasService, Host, HostFault, Turn};
+use tk_session::{EventLine, Session};
+use tkhost::{Served, own_services};
 
 /// Panels whose scripts have run, on a host that takes lines one after another. Contracts see the host.
 pub struct Live<M: AliasService> {
@@ -93,19 +91,12 @@ impl<M: AliasService> Live<M> {
     }
 }
 
-/// The panels of a session, whose scripts have run, each at most `slice` steps at a time, with the closures that are made for its aliases.
-pub fn live_with<F: AliasCode, K: Fn(ServiceKind, Text) -> F>(
-    alloc: Global,
-    session: &Session,
-    slice: u64,
-    make: &K,
-) -> Result<Live<Closure<Service, F>>, BenchFault>
-    requires make { K.IsAlwaysCallable make.now }
-    requires services { MakesServices (K.post make.now) F.may_call F.may_reply }
+/// The panels of a session, whose scripts have run, each at most `slice` steps at a time, with the program's own services.
+pub fn live_panels(alloc: Global, session: &Session, slice: u64) -> Result<Live<Served>, BenchFault>
     requires slice { 1 ≤ slice }
     ensures { IfOk result (λ live. live.held ≡ held_after (λ (service : ServiceOf). answer_of service.kind service.config) (adding session.now.apps (map services_in session.now.apps) ++ Start ∷ [])) }
 {
-    let aliases = services_of(alloc, session, make)?;
+    let aliases = own_services(alloc, session)?;
     Ok(Live {
         host: started(alloc, session, aliases, slice)?,
     })

@@ -3,7 +3,6 @@
 ghost use Rattle.std.specs.Prelude.{◌≡◌, ◌≢◌, ◌≤◌, ◌∷◌, ◌++◌, [], ℕ, List, map, IfOk, IfErr, OnOk};
 ghost use Rattle.tk_host.specs.declared.phase.Phase.{Phase};
 ghost use Rattle.tk_session.specs.Session.{IsSession};
-ghost use Rattle.tkhost.specs.Play.{MakesServices};
 ghost use Rattle.tkhost.specs.Sections.{program_sections};
 ghost use Rattle.tk_host.specs.Held.{Call, Start, held_after};
 ghost use Rattle.tk_host.specs.Refusals.{RefusesLine, line_faults};
@@ -28,12 +27,9 @@ use crate::look::push_unseen;
 use crate::screen::Screen;
 use crate::verdict::sections_of;
 use std::alloc::{AllocError, AllocFailed, Global};
-use tcl_text::Text;
-use tk_host::{AliasCode, AliasService, Aliases, Host, HostFault};
-use tk_session::{
-    AppBlock, EventLine, HostLine, LineFault, ServiceKind, Session, WritingFault, write_session,
-};
-use tkhost::{PlayFault, Unplayed, filled, play_or_tell, services_of};
+use tk_host::{AliasService, Aliases, Host, HostFault};
+use tk_session::{AppBlock, EventLine, HostLine, LineFault, Session, WritingFault, write_session};
+use tkhost::{PlayFault, Unplayed, filled, own_services, play_or_tell};
 
 /// Why a bench isn't played to its end.
 #[derive(Drop)]
@@ -348,19 +344,12 @@ pub(crate) fn written(
 }
 
 /// All that a session writes.
-fn output_of<F: AliasCode, K: Fn(ServiceKind, Text) -> F>(
-    alloc: Global,
-    session: &Session,
-    slice: u64,
-    make: &K,
-) -> Result<Vec<u8>, BenchFault>
-    requires make { K.IsAlwaysCallable make.now }
-    requires services { MakesServices (K.post make.now) F.may_call F.may_reply }
+fn output_of(alloc: Global, session: &Session, slice: u64) -> Result<Vec<u8>, BenchFault>
     requires slice { 1 ≤ slice }
     ensures output { IfOk result (λ output. output.items ≡ program_sections session.now) }
     ensures memory { IfErr result IsWantOfMemory }
 {
-    let aliases = services_of(alloc, session, make)?;
+    let aliases = own_services(alloc, session)?;
     let mut output = Vec::new(alloc);
     match play_or_tell(alloc, session, aliases, slice, &mut output) {
         Ok(()) => Ok(output),
@@ -372,39 +361,29 @@ fn output_of<F: AliasCode, K: Fn(ServiceKind, Text) -> F>(
 
 /// The section of each panel of a bench at its end, where its gestures became these lines. Refused are, in this order: panels that can't stand side by side
 /// in a session, the first line that may not stand in it, and an end before the last of them.
-pub fn sections_with<F: AliasCode, K: Fn(ServiceKind, Text) -> F>(
+pub fn sections_with(
     alloc: Global,
     bench: &Bench,
     events: &[EventLine],
     slice: u64,
-    make: &K,
 ) -> Result<Vec<Vec<u8>>, BenchFault>
-    requires make { K.IsAlwaysCallable make.now }
-    requires services { MakesServices (K.post make.now) F.may_call F.may_reply }
     requires slice { 1 ≤ slice }
     ensures sections { IfOk result (λ sections. map (λ section. section.items) sections.items ≡ sections_in (program_sections (plan_of bench.now events.now))) }
     ensures refused { IfErr result (UnsaidBy (plan_of bench.now events.now)) }
 {
     let (_, plan) = written(alloc, bench, events)?;
-    let output = output_of(alloc, &plan, slice, make)?;
+    let output = output_of(alloc, &plan, slice)?;
     Ok(sections_of(alloc, output.as_slice())?)
 }
 
-/// Plays a bench, each panel at most `slice` steps at a time, with the closures that are made for its aliases: entry by entry, where a gesture becomes the
+/// Plays a bench, each panel at most `slice` steps at a time, with the program's own services: entry by entry, where a gesture becomes the
 /// lines of a session that lead to where its window lies at that moment. These lines and the panels are a session, which is written, read again and played.
 ///
 /// How its panels ended is noted by the host that took these entries, once it has come to the end.
 ///
 /// Refused are, in this order: panels that can't stand side by side in a session, the first entry that the host refuses, and an end before the last of them.
 #[tactic(auto, using(crate::proofs::Refused::refused_first, crate::proofs::Refused::refused_among, crate::proofs::Refused::refused_last))]
-pub fn play<F: AliasCode, K: Fn(ServiceKind, Text) -> F>(
-    alloc: Global,
-    bench: &Bench,
-    slice: u64,
-    make: &K,
-) -> Result<Played, BenchFault>
-    requires make { K.IsAlwaysCallable make.now }
-    requires services { MakesServices (K.post make.now) F.may_call F.may_reply }
+pub fn play(alloc: Global, bench: &Bench, slice: u64) -> Result<Played, BenchFault>
     requires slice { 1 ≤ slice }
     ensures session { IfOk result (λ played. IsSession played.session.items (plan_of bench.now played.events.items)) }
     ensures output { IfOk result (λ played. played.output.items ≡ program_sections (plan_of bench.now played.events.items)) }
@@ -414,10 +393,10 @@ pub fn play<F: AliasCode, K: Fn(ServiceKind, Text) -> F>(
     ensures refused { IfErr result (IsRefused (λ (service : Service). answer_of service.kind service.config) bench.now (map services_in bench.now.panels.items)) }
 {
     let (_, begun) = written(alloc, bench, &[])?;
-    let aliases = services_of(alloc, &begun, make)?;
+    let aliases = own_services(alloc, &begun)?;
     let course = course_of(alloc, bench, &begun, aliases, slice)?;
     let (text, session) = written(alloc, bench, course.events.as_slice())?;
-    let output = output_of(alloc, &session, slice, make)?;
+    let output = output_of(alloc, &session, slice)?;
     let sections = sections_of(alloc, output.as_slice())?;
     Ok(Played {
         events: course.events,

@@ -1,7 +1,6 @@
 //! Which bindings run: the panels are played again, and their scripts note it in the transcript.
 ghost use Rattle.std.specs.Prelude.{◌≡◌, ◌≤◌, ◌++◌, ◌∷◌, [], List, drop, length, map, option_map, IfNone, IfOk, IfSome, OnOk};
 ghost use Rattle.tk_host.specs.Held.{Call, held_after};
-ghost use Rattle.tkhost.specs.Play.{MakesServices};
 ghost use Rattle.panels.specs.Course.{section_at};
 ghost use Rattle.panels_film.specs.Bindings.{IsNone, IsRan, cut, known_at, known_by, none_known, note_in, noted, notes_among, noting, noting_plan, noting_script, ran_at, ran_by, ran_from, ran_of, ran_since, told};
 ghost use Rattle.panels_film.specs.Films.{handed};
@@ -14,13 +13,13 @@ ghost use Rattle.tk_session.specs.Writing.{text_of};
 use crate::copying::copies;
 use crate::numbers::number_in;
 use crate::playing::{begun, hand_line, reach, section_of};
-use panels::{Live, live_with};
+use panels::{Live, live_panels};
 use panels_text::as_text;
 use std::alloc::{AllocError, Global};
 use tcl_text::{Text, TextFault};
 use tk_base::Budget;
-use tk_host::{AliasCode, AliasService};
-use tk_session::{AppBlock, EventLine, ServiceKind, Session, WritingFault, write_session};
+use tk_host::AliasService;
+use tk_session::{AppBlock, EventLine, Session, WritingFault, write_session};
 
 /// A binding that ran.
 #[derive(Drop)]
@@ -254,17 +253,11 @@ fn ran_of<M: AliasService>(
     Ok(ran)
 }
 
-/// The same of the panels of a session, with the closures that are made for its aliases.
-fn ran_with<F: AliasCode, K: Fn(ServiceKind, Text) -> F>(
-    alloc: Global,
-    session: &Session,
-    make: &K,
-) -> Result<Vec<Ran>, AllocError>
-    requires make { K.IsAlwaysCallable make.now }
-    requires services { MakesServices (K.post make.now) F.may_call F.may_reply }
+/// The same of the panels of a session, with the program's own services.
+fn ran_in(alloc: Global, session: &Session) -> Result<Vec<Ran>, AllocError>
     ensures { IfOk result (λ ran. map told ran.items ≡ ran_of session.now) }
 {
-    let live = begun(live_with(alloc, session, 64, make))?;
+    let live = begun(live_panels(alloc, session, 64))?;
     ran_of(alloc, live, session)
 }
 
@@ -300,12 +293,6 @@ pub fn bindings_of(alloc: Global, session: &Session) -> Result<Vec<Ran>, AllocEr
 {
     match noting_session(alloc, session)? {
         None => Ok(Vec::new(alloc)),
-        Some(session) => ran_with(
-            alloc,
-            &session,
-            &|kind: ServiceKind, config: Text| move |args: &[Text]| kind.reply(
-                alloc, &config, args,
-            ),
-        ),
+        Some(session) => ran_in(alloc, &session),
     }
 }

@@ -6,7 +6,7 @@ ghost use Rattle.tk_alias.specs.Services.{answer_of};
 ghost use Rattle.tk_alias.specs.declared.service.Service.{Service as ServiceOf};
 ghost use Rattle.tk_host.specs.Held.{Call, held_after};
 ghost use Rattle.tk_host.specs.Sections.{sections_after};
-ghost use Rattle.tkhost.specs.Play.{MakesServices, services_in};
+ghost use Rattle.tkhost.specs.Play.{services_in};
 ghost use Rattle.std.specs.Option.{option_copied};
 ghost use Rattle.panels_film.specs.Films.{IsCounted, IsFilm, begun as begun_calls, calls_until, come, earlier, is_alike, is_repeated, later_than, line_behind, moment_behind, shown, shown_at, timer_behind, up_to, with_frame};
 ghost use Rattle.panels_film.specs.Looks.{looks_from, told_all};
@@ -15,11 +15,10 @@ ghost use Rattle.panels_film.specs.Moments.{count_until};
 use crate::looks::{WindowLook, looks_of};
 use crate::moments::{between, count_until};
 use crate::playing::{begun, hand, reach, sections_now};
-use panels::{Live, live_with, next_due};
+use panels::{Live, live_panels, next_due};
 use std::alloc::{AllocError, Global};
-use tcl_text::Text;
-use tk_host::{AliasCode, AliasService};
-use tk_session::{EventLine, ServiceKind, Session};
+use tk_host::AliasService;
+use tk_session::{EventLine, Session};
 
 /// How many moments are looked at.
 const MOST_FRAMES: usize = 500;
@@ -246,24 +245,6 @@ fn frame_of<M: AliasService>(
     Ok(frame)
 }
 
-/// The same of the panels of a session, with the closures that are made for its aliases.
-fn frame_with<F: AliasCode, K: Fn(ServiceKind, Text) -> F>(
-    alloc: Global,
-    session: &Session,
-    slice: u64,
-    moment: u64,
-    make: &K,
-) -> Result<Frame, AllocError>
-    requires make { K.IsAlwaysCallable make.now }
-    requires services { MakesServices (K.post make.now) F.may_call F.may_reply }
-    ensures moment { IfOk result (λ frame. frame.moment ≡ moment) }
-    ensures count { IfOk result (λ frame. frame.count ≡ count_until moment session.now.events) }
-    ensures shown { IfOk result (λ frame. shown frame ≡ shown_at (λ (service : ServiceOf). answer_of service.kind service.config) session.now (calls_until session.now moment (map services_in session.now.apps)) moment) }
-{
-    let live = begun(live_with(alloc, session, slice.max(1), make))?;
-    frame_of(alloc, live, session, moment)
-}
-
 /// What the panels of a session show at a moment: their scripts have run, the lines up to it were handed on, and what is due by then is done. An error where
 /// memory is refused.
 pub fn frame_at(
@@ -276,30 +257,8 @@ pub fn frame_at(
     ensures count { IfOk result (λ frame. frame.count ≡ count_until moment session.now.events) }
     ensures shown { IfOk result (λ frame. shown frame ≡ shown_at (λ (service : ServiceOf). answer_of service.kind service.config) session.now (calls_until session.now moment (map services_in session.now.apps)) moment) }
 {
-    frame_with(
-        alloc,
-        session,
-        slice,
-        moment,
-        &|kind: ServiceKind, config: Text| move |args: &[Text]| kind.reply(alloc, &config, args),
-    )
-}
-
-/// The film of the panels of a session, with the closures that are made for its aliases.
-fn film_with<F: AliasCode, K: Fn(ServiceKind, Text) -> F>(
-    alloc: Global,
-    session: &Session,
-    slice: u64,
-    make: &K,
-) -> Result<Film, AllocError>
-    requires make { K.IsAlwaysCallable make.now }
-    requires services { MakesServices (K.post make.now) F.may_call F.may_reply }
-    ensures most { IfOk result (λ film. length film.frames.items ≤ 500) }
-    ensures counted { IfOk result (λ film. All (IsCounted session.now.events) film.frames.items) }
-    ensures moments { IfOk result (IsFilm (λ (service : ServiceOf). answer_of service.kind service.config) session.now (begun_calls session.now (map services_in session.now.apps))) }
-{
-    let live = begun(live_with(alloc, session, slice.max(1), make))?;
-    film_of(alloc, live, session)
+    let live = begun(live_panels(alloc, session, slice.max(1)))?;
+    frame_of(alloc, live, session, moment)
 }
 
 /// The moments at which something changes on a bench that was played, of which this is the session: the first, those of the lines that its gestures became,
@@ -309,10 +268,6 @@ pub fn filmed(alloc: Global, session: &Session, slice: u64) -> Result<Film, Allo
     ensures counted { IfOk result (λ film. All (IsCounted session.now.events) film.frames.items) }
     ensures moments { IfOk result (IsFilm (λ (service : ServiceOf). answer_of service.kind service.config) session.now (begun_calls session.now (map services_in session.now.apps))) }
 {
-    film_with(
-        alloc,
-        session,
-        slice,
-        &|kind: ServiceKind, config: Text| move |args: &[Text]| kind.reply(alloc, &config, args),
-    )
+    let live = begun(live_panels(alloc, session, slice.max(1)))?;
+    film_of(alloc, live, session)
 }

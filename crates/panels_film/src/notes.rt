@@ -4,7 +4,7 @@ ghost use Rattle.std.specs.Prelude.{◌≡◌, List, length, map, IfOk};
 ghost use Rattle.tk_alias.specs.Services.{answer_of};
 ghost use Rattle.tk_alias.specs.declared.service.Service.{Service as ServiceOf};
 ghost use Rattle.tk_host.specs.Held.{Call, held_after};
-ghost use Rattle.tkhost.specs.Play.{MakesServices, services_in};
+ghost use Rattle.tkhost.specs.Play.{services_in};
 ghost use Rattle.panels_film.specs.Films.{begun, handed, reached};
 ghost use Rattle.panels_film.specs.Getters.{getter_of};
 ghost use Rattle.panels_film.specs.Notes.{are_others, changes, getter_told, notes_from, told};
@@ -12,11 +12,10 @@ ghost use Rattle.panels_film.specs.Screens.{at_first, known};
 
 use crate::playing::{begun, hand_line, reach, sections_now};
 use crate::pointed::{Getter, getter_of};
-use panels::{Live, Screen, live_with};
+use panels::{Live, Screen, live_panels};
 use std::alloc::{AllocError, Global};
-use tcl_text::Text;
-use tk_host::{AliasCode, AliasService};
-use tk_session::{EventLine, ServiceKind, Session};
+use tk_host::AliasService;
+use tk_session::{EventLine, Session};
 
 /// What came of a line of a session.
 #[derive(Drop)]
@@ -81,27 +80,10 @@ fn follow<M: AliasService>(
     Ok(notes)
 }
 
-/// The same of the lines of a session, with the closures that are made for its aliases.
-fn notes_with<F: AliasCode, K: Fn(ServiceKind, Text) -> F>(
-    alloc: Global,
-    session: &Session,
-    make: &K,
-) -> Result<Vec<Note>, AllocError>
-    requires make { K.IsAlwaysCallable make.now }
-    requires services { MakesServices (K.post make.now) F.may_call F.may_reply }
-    ensures { IfOk result (λ notes. map told notes.items ≡ notes_from (λ (service : ServiceOf). answer_of service.kind service.config) (length session.now.apps) (begun session.now (map services_in session.now.apps)) (at_first session.now.apps) session.now.events) }
-{
-    let live = begun(live_with(alloc, session, 64, make))?;
-    follow(alloc, live, session)
-}
-
 /// What came of each line of a session, whose panels are played with the program's own services. An error where memory is refused.
 pub fn notes_of(alloc: Global, session: &Session) -> Result<Vec<Note>, AllocError>
     ensures { IfOk result (λ notes. map told notes.items ≡ notes_from (λ (service : ServiceOf). answer_of service.kind service.config) (length session.now.apps) (begun session.now (map services_in session.now.apps)) (at_first session.now.apps) session.now.events) }
 {
-    notes_with(
-        alloc,
-        session,
-        &|kind: ServiceKind, config: Text| move |args: &[Text]| kind.reply(alloc, &config, args),
-    )
+    let live = begun(live_panels(alloc, session, 64))?;
+    follow(alloc, live, session)
 }

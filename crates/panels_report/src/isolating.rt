@@ -11,7 +11,7 @@ use panels_text::differences;
 use std::alloc::{AllocError, Global};
 use tcl_text::Text;
 use tk_base::{Budget, Rect};
-use tk_session::{AppBlock, EventLine, Listing, ServiceKind};
+use tk_session::{AppBlock, EventLine, Listing};
 
 /// A name that a panel hasn't.
 fn other_name(name: &str) -> &'static str
@@ -86,13 +86,7 @@ fn section_beside(
     ensures { IfOk result (λ section. section.items ≡ section_beside neighbours bench.now events.now slot) }
 {
     let other = bench_beside(alloc, bench, slot, neighbours)?;
-    let sections = sections_with(
-        alloc,
-        &other,
-        events,
-        slice.max(1),
-        &|kind: ServiceKind, config: Text| move |args: &[Text]| kind.reply(alloc, &config, args),
-    )?;
+    let sections = sections_with(alloc, &other, events, slice.max(1))?;
     Ok(Vec::from_slice(alloc, section_in(sections.as_slice(), slot))?)
 }
 

@@ -13,8 +13,7 @@ use panels::{Bench, BenchFault, Played, play};
 use panels_bench::{Read, slot_at};
 use panels_text::{Failure, fault};
 use std::alloc::Global;
-use tcl_text::Text;
-use tk_session::{AppBlock, LineFault, ServiceKind, WritingFault};
+use tk_session::{AppBlock, LineFault, WritingFault};
 
 /// Why panels are no session, in words.
 fn words_of(fault: LineFault) -> &'static str
@@ -95,10 +94,5 @@ pub fn play_bench(alloc: Global, bench: &Bench, slice: u64) -> Result<Played, Be
     ensures output { IfOk result (λ played. played.output.items ≡ program_sections (plan_of bench.now played.events.items)) }
     ensures refused { IfErr result (IsRefused (λ (service : ServiceOf). answer_of service.kind service.config) bench.now (map services_in bench.now.panels.items)) }
 {
-    play(
-        alloc,
-        bench,
-        slice.max(1),
-        &|kind: ServiceKind, config: Text| move |args: &[Text]| kind.reply(alloc, &config, args),
-    )
+    play(alloc, bench, slice.max(1))
 }

@@ -14,7 +14,7 @@ use panels_text::{as_text, behind, first_word};
 use std::alloc::{AllocError, Global};
 use tcl_text::{Text, TextFault};
 use tk_base::{Budget, Rect};
-use tk_session::{AppBlock, Listing, ServiceKind};
+use tk_session::{AppBlock, Listing};
 
 /// How many bytes of commands are tried in one application.
 const MOST_BYTES: usize = 60_000;
@@ -238,14 +238,7 @@ fn sections_of(alloc: Global, script: Text) -> Result<Vec<Vec<u8>>, AllocError>
     ensures { IfOk result (λ sections. map (λ section. section.items) sections.items ≡ sections_in (program_sections (asked_plan script))) }
 {
     let bench = bench(alloc, script)?;
-    let answer = sections_with(
-        alloc,
-        &bench,
-        &[],
-        64,
-        &|kind: ServiceKind, config: Text| move |args: &[Text]| kind.reply(alloc, &config, args),
-    );
-    match answer {
+    match sections_with(alloc, &bench, &[], 64) {
         Ok(sections) => Ok(sections),
         Err(_) => Err(AllocError),
     }

@@ -2,14 +2,12 @@
 //!
 //! Beside a session `NAME.session` lies `NAME.expected`, the bytes that it writes, or `NAME.fault`, its exit status and its line on standard error. Each
 //! is played at six slices; `--once` before the names plays each at one slice alone, for a run without proof.
-ghost use Rattle.tkhost.specs.Play.{MakesServices};
-
 use anyhow::{Context, Result, bail};
 use std::alloc::Global;
 use std::fs;
 use std::rt::Files;
 use tcl_text::Text;
-use tkhost::{AliasCode, Outcome, ServiceKind, Session, play, read_session, run, services_of};
+use tkhost::{Outcome, ServiceKind, own_services, play, read_session, run};
 
 /// Slices that no section may depend on, in steps.
 const SLICES: [u64; 6] = [1, 2, 3, 7, 64, 1_000_000];
@@ -42,41 +40,21 @@ fn told(alloc: Global, session: &[u8]) -> Result<(Vec<u8>, Vec<u8>)> {
     Ok((sections, fault))
 }
 
-/// Whether the session's sections are the same at each slice, with the closures that are made for its alias lines.
-fn same_with<F: AliasCode, K: Fn(ServiceKind, Text) -> F>(
-    alloc: Global,
-    session: &Session,
-    expected: &[u8],
-    make: &K,
-) -> Result<bool>
-    requires make { K.IsAlwaysCallable make.now }
-    requires services { MakesServices (K.post make.now) F.may_call F.may_reply }
-{
+/// Whether the session's sections are the same at each slice.
+fn same_at_each_slice(alloc: Global, session: &[u8], expected: &[u8]) -> Result<bool> {
+    let Ok(session) = read_session(alloc, session) else {
+        return Ok(false);
+    };
     for slice in SLICES {
         let mut sections = Vec::new(alloc);
-        let aliases = services_of(alloc, session, make)?;
-        if play(alloc, session, aliases, slice, &mut sections).is_err()
+        let aliases = own_services(alloc, &session)?;
+        if play(alloc, &session, aliases, slice, &mut sections).is_err()
             || sections.as_slice() != expected
         {
             return Ok(false);
         }
     }
     Ok(true)
-}
-
-/// Whether the session's sections are the same at each slice.
-fn same_at_each_slice(alloc: Global, session: &[u8], expected: &[u8]) -> Result<bool> {
-    match read_session(alloc, session) {
-        Ok(session) => same_with(
-            alloc,
-            &session,
-            expected,
-            &|kind: ServiceKind, config: Text| {
-                move |args: &[Text]| kind.reply(alloc, &config, args)
-            },
-        ),
-        Err(_) => Ok(false),
-    }
 }
 
 /// Whether a session writes what is stored beside it, once or at each slice.

@@ -8,8 +8,6 @@
 //! - `write WRITER` writes the text, and `play WRITER` plays it as a session: what the writer took, behind `!` and the fault where it was refused.
 //! - `run READER WRITER` does what the program does, and `outcome OUTCOME` is one of its outcomes, `done`, `refused NUMBER LINE`, `usage`, `read`,
 //!   `write` or `memory`: the exit status, the line on standard error, and of `run` what the writer took, with bars between.
-ghost use Rattle.tkhost.specs.Play.{MakesServices};
-
 use crate::stream::{Flow, Stream};
 use anyhow::{Result, bail};
 use asking::{number, result_of, words_of};
@@ -17,8 +15,8 @@ use std::alloc::Global;
 use std::str;
 use tcl_text::Text;
 use tkhost::{
-    AliasCode, InputFault, Outcome, PlayFault, ServiceKind, play, read_input, read_session, run,
-    services_of, write_whole,
+    InputFault, Outcome, PlayFault, ServiceKind, own_services, play, read_input, read_session, run,
+    write_whole,
 };
 
 /// How many steps a session takes at a stretch.
@@ -66,20 +64,12 @@ fn endless(alloc: Global, piece: usize) -> Result<String> {
     Ok(format!(in alloc; "{}, asked {} times", told.as_str(), reader.asked)?)
 }
 
-/// Plays a session with the closures that are made for its aliases. Whether the writer took all.
-fn play_with<F: AliasCode, K: Fn(ServiceKind, Text) -> F>(
-    alloc: Global,
-    session: &[u8],
-    writer: &mut Stream<'_>,
-    make: &K,
-) -> Result<bool>
-    requires make { K.IsAlwaysCallable make.now }
-    requires services { MakesServices (K.post make.now) F.may_call F.may_reply }
-{
+/// Plays a session. Whether the writer took all.
+fn play_to(alloc: Global, session: &[u8], writer: &mut Stream<'_>) -> Result<bool> {
     let Ok(session) = read_session(alloc, session) else {
         bail!("no session, or no memory for one");
     };
-    let aliases = services_of(alloc, &session, make)?;
+    let aliases = own_services(alloc, &session)?;
     match play(alloc, &session, aliases, SLICE, writer) {
         Ok(()) => Ok(true),
         Err(PlayFault::Write) => Ok(false),
@@ -135,14 +125,7 @@ impl Streams {
 
     fn play(&self, alloc: Global, flow: Flow) -> Result<String> {
         let mut writer = Stream::new(alloc, flow, &[]);
-        let is_whole = play_with(
-            alloc,
-            self.text.as_bytes(),
-            &mut writer,
-            &|kind: ServiceKind, config: Text| {
-                move |args: &[Text]| kind.reply(alloc, &config, args)
-            },
-        )?;
+        let is_whole = play_to(alloc, self.text.as_bytes(), &mut writer)?;
         taken_told(alloc, &writer, is_whole)
     }
 

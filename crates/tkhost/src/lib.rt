@@ -7,6 +7,7 @@ mod outcome;
 mod output;
 mod playing;
 mod program;
+mod served;
 mod services;
 
 pub use input::{InputFault, read_input};
@@ -15,6 +16,7 @@ pub use outcome::{Ending, Outcome};
 pub use output::{WriteFault, write_whole};
 pub use playing::{PlayFault, Unplayed, filled, play, play_or_tell, run_through};
 pub use program::run;
+pub use served::{Served, own_services};
 pub use services::services_of;
 pub use tk_host::{
     Alias, AliasCode, AliasMeaning, AliasReply, AliasService, Aliases, Budget, Closure,

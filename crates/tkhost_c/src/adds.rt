@@ -3,13 +3,13 @@ ghost use Rattle.tkhost_c.specs.Calls.{ReadsAlias, ReadsApp, kind_of};
 
 use crate::kept::Kept;
 use crate::refusal::Refusal;
-use crate::served::Served;
 use crate::texts::{kind_of, text_of};
 use std::alloc::Global;
 use std::mem;
 use tcl_text::Text;
 use tk_host::{Alias, Aliases, Budget, LineFault, MAX_ALIASES, Rect, is_command_name};
 use tk_session::{AppBlock, Listing, Service};
+use tkhost::Served;
 
 /// What is kept of an application for the lines that name it, and its script.
 fn read_app(

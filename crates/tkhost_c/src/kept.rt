@@ -1,10 +1,10 @@
 //! What a handle keeps.
 use crate::refusal::{Refusal, answered_as};
-use crate::served::Served;
 use std::alloc::{AllocError, Global};
 use std::marker::Model;
 use tk_host::{Aliases, Host, HostFault, HostLine};
 use tk_session::AppBlock;
+use tkhost::Served;
 
 /// A host, its applications as far as lines name them, and the aliases that the next one gets.
 pub struct Kept {

@@ -13,7 +13,6 @@ mod place;
 mod playing;
 mod refusal;
 mod running;
-mod served;
 mod taking;
 mod telling;
 mod texts;

@@ -1,6 +1,5 @@
 //! Whole sessions.
 ghost use Rattle.std.specs.Prelude.{◌≡◌, ◌≤◌, Result, IfOk};
-ghost use Rattle.tkhost.specs.Play.{MakesServices};
 ghost use Rattle.tkhost.specs.Sections.{program_sections};
 ghost use Rattle.tkhost_c.specs.declared.refusal.Refusal.{Refusal as RefusalOf};
 ghost use Rattle.tkhost_c.specs.Calls.{Plays};
@@ -9,38 +8,18 @@ ghost use Rattle.tkhost_c.specs.Numbers.{number_for};
 use crate::refusal::{Refusal, number_for};
 use crate::telling::tell;
 use std::alloc::Global;
-use tcl_text::Text;
 use tk_host::LineFault;
-use tkhost::{
-    AliasCode, PlayFault, ServiceKind, Session, SessionFault, play, read_session, services_of,
-};
-
-/// What a session writes, with the closures that are made for its alias lines.
-fn sections<F: AliasCode, K: Fn(ServiceKind, Text) -> F>(
-    alloc: Global,
-    session: &Session,
-    slice: u64,
-    make: K,
-) -> Result<Vec<u8>, PlayFault>
-    requires slice { 1 ≤ slice }
-    requires make { K.IsAlwaysCallable make }
-    requires services { MakesServices (K.post make) F.may_call F.may_reply }
-    ensures { IfOk result (λ text. text.items ≡ program_sections session.now) }
-{
-    let aliases = services_of(alloc, session, &make)?;
-    let mut text = Vec::new(alloc);
-    play(alloc, session, aliases, slice, &mut text)?;
-    Ok(text)
-}
+use tkhost::{PlayFault, Session, SessionFault, own_services, play, read_session};
 
 /// What a session writes, as the program serves its aliases.
 fn played(alloc: Global, session: &Session, slice: u64) -> Result<Vec<u8>, PlayFault>
     requires { 1 ≤ slice }
     ensures { IfOk result (λ text. text.items ≡ program_sections session.now) }
 {
-    sections(alloc, session, slice, |kind: ServiceKind, config: Text| {
-        move |args: &[Text]| kind.reply(alloc, &config, args)
-    })
+    let aliases = own_services(alloc, session)?;
+    let mut text = Vec::new(alloc);
+    play(alloc, session, aliases, slice, &mut text)?;
+    Ok(text)
 }
 
 /// Plays a session, and tells its sections.

@@ -8,7 +8,7 @@ use Rattle.panels.proofs.Refused.{memory_refused, refused_among, refused_last}
 use Rattle.panels.proofs.playing.play.Goals as goal
 
 pub returns-in_err-course-clause-refused : goal.returns-in_err-course-clause-refused
-returns-in_err-course-clause-refused g c =
+returns-in_err-course-clause-refused c =
     let apps = ap (λ (plan : Plan). plan.apps) c.in_ok-begun.ensures.read in
     let lists = c.in_ok-aliases.ensures.services ∙ ap (map services_in) apps in
     let p = err_from_is_err_and c.from_residual-in_err-course.result c.from_residual-in_err-course.ensures.1 in
@@ -17,7 +17,7 @@ returns-in_err-course-clause-refused g c =
     c.in_ok-begun.begun.apps c.in_ok-aliases.aliases.items c.in_err-course.field-0.0 apps lists c.in_ok-begun.ensures.sayable c.in_err-course.ensures.refused)
 
 pub returns-in_err-text-clause-refused : goal.returns-in_err-text-clause-refused
-returns-in_err-text-clause-refused g c =
+returns-in_err-text-clause-refused c =
     let apps = ap (λ (plan : Plan). plan.apps) c.in_ok-begun.ensures.read in
     let lists = c.in_ok-aliases.ensures.services ∙ ap (map services_in) apps in
     let p = err_from_is_err_and c.from_residual-in_err-text.result c.from_residual-in_err-text.ensures.1 in
@@ -27,7 +27,7 @@ returns-in_err-text-clause-refused g c =
     (c.as_slice.ensures.value ∙ c.in_ok-course.ensures.ends.events_are) c.in_err-text.ensures.refused)
 
 pub returns-in_err-output-clause-refused : goal.returns-in_err-output-clause-refused
-returns-in_err-output-clause-refused g c =
+returns-in_err-output-clause-refused c =
     let p = err_from_is_err_and c.from_residual-in_err-output.result c.from_residual-in_err-output.ensures.1 in
     rw (p.1, p.2)
     (memory_refused (λ (service : Service). answer_of service.kind service.config) c.args.bench.now (map services_in c.args.bench.now.panels.items) _ c.in_err-output.ensures.memory)

@@ -1,6 +1,6 @@
 use Rattle.std.proofs.Common.{List, length, ap, arith}
 use Rattle.tk_session.specs.declared.session.AppBlock.{AppBlock}
-use Rattle.tkhost.proofs.Served.{all_serve}
+use Rattle.tkhost.proofs.Serving.{all_serve}
 use Rattle.tkhost.proofs.services.services_of.Goals as goal
 
 pub returns-clause-serve : goal.returns-clause-serve

@@ -645,15 +645,24 @@ def lived():
         return "\n".join(told)
 
     with subprocess.Popen([built(BENCHES), "live"], stdin=subprocess.PIPE, stdout=subprocess.PIPE, text=True) as program:
+        answers = []
         for lines, wanted in LIVED:
             told = answer(program, lines)
+            answers.append(told)
             see(told == wanted or wanted.startswith("refused: ") and told.startswith(wanted) and "\n" not in told, f"live: {lines!r} is answered {told!r}, and not {wanted!r}")
         ended = answer(program, "400 end")
+        answers.append(ended)
         see(program.wait(timeout=60) == 0, "live doesn't end with status 0")
     session = [lines for lines, wanted in LIVED if not wanted.startswith("refused") and lines.split()[0] not in ("turns", "window", "section", "advance")]
     if built(HOST).exists():
         whole = subprocess.run([built(HOST)], input="".join(f"{lines}\n" for lines in [*session, "400 end"]), capture_output=True, text=True)
         see(whole.returncode == 0 and whole.stdout + "ok" == ended, f"live ends with {ended!r}, and the session writes {whole.stdout!r}")
+    with tempfile.TemporaryFile("w+") as file:
+        file.write("".join(f"{lines}\n" for lines, _ in (*LIVED, ("400 end", ""))))
+        file.seek(0)
+        whole = subprocess.run([built(BENCHES), "live"], stdin=file, capture_output=True, text=True).stdout
+    wanted = "".join(f"{told}\n" for told in answers)
+    see(whole == wanted, f"live answers a file with {whole!r}, and its lines with {wanted!r}")
     ended = subprocess.run([built(BENCHES), "live"], input="tkhost 1\n", capture_output=True, text=True)
     see((ended.returncode, ended.stdout) == (0, "ok\n"), f"live whose input ends: {ended}")
 

@@ -47,15 +47,7 @@ def requests(whole):
         number += 1 if whole else 1 + number // 250
 
 
-def piped(text):
-    """A pipe that holds a short text, and ends behind it."""
-    source, end = os.pipe()
-    os.write(end, text)
-    os.close(end)
-    return source
-
-
-def run(words, number, library, stdin=b"", folder=None, is_piped=False):
+def run(words, number, library, stdin=b"", folder=None):
     """A run in which one request is refused: its exit status and what it wrote on both streams, and whether the refusal was met."""
     # (files and posix_spawn: tens of thousands of short runs, where pipes and a fork of this process would take most of the time)
     with tempfile.TemporaryFile() as given, tempfile.TemporaryFile() as out, tempfile.TemporaryFile() as err, tempfile.TemporaryFile() as met:
@@ -63,10 +55,8 @@ def run(words, number, library, stdin=b"", folder=None, is_piped=False):
         given.flush()
         given.seek(0)
         os.chdir(folder or TOP)
-        source = piped(stdin) if is_piped else os.dup(given.fileno())
-        streams = [(os.POSIX_SPAWN_DUP2, file, at) for file, at in ((source, 0), (out.fileno(), 1), (err.fileno(), 2), (met.fileno(), 9))]
+        streams = [(os.POSIX_SPAWN_DUP2, file, at) for file, at in ((given.fileno(), 0), (out.fileno(), 1), (err.fileno(), 2), (met.fileno(), 9))]
         process = os.posix_spawn(words[0], words, {"LD_PRELOAD": library, "REFUSE": str(number)}, file_actions=streams)
-        os.close(source)
         signal.signal(signal.SIGALRM, lambda *_: os.kill(process, signal.SIGKILL))
         signal.alarm(60)
         status = os.waitstatus_to_exitcode(os.waitpid(process, 0)[1])
@@ -101,14 +91,14 @@ def session_faults(program, library, whole, session):
 
 def panels_faults(program, library, whole, words, text):
     """What is wrong with the runs of panels, and how many met a refusal."""
-    wanted, _ = run([program, *words], 0, library, text, is_piped=bool(text))
+    wanted, _ = run([program, *words], 0, library, text)
     names = re.findall(rb"^app (\w+) ", wanted[1], re.M)
     lines = [b"", *(b"panels: memory was refused to %b\n" % name for name in names)]
     starved, told = {b"panels: out of memory\n" + line: line for line in lines}, set()
     if wanted[0] or not names:
         return [f"{words}: {wanted}"], 0
     for number in requests(whole):
-        got, met = run([program, *words], number, library, text, is_piped=bool(text))
+        got, met = run([program, *words], number, library, text)
         if not met:
             unheard = [line for line in lines if line not in told] if whole or len(told) < 2 else []
             return [f"{words}: never told: {line}" for line in unheard], number - 1

@@ -1,13 +1,10 @@
 //! Sessions that come line by line.
-ghost use Rattle.tkhost.specs.Play.{MakesServices};
-
-use panels::{BenchFault, Live, live_with};
+use panels::{BenchFault, Live, live_panels};
 use panels_report::{Blocks, Reply, Taken, answered, unserved};
 use panels_text::{Failure, as_text};
 use std::io::Input;
-use tcl_text::Text;
-use tk_host::{AliasCode, AliasService};
-use tk_session::{AppBlock, ServiceKind, Session};
+use tk_host::AliasService;
+use tk_session::{AppBlock, Session};
 
 /// Prints the last line of an answer.
 fn close<R: Print + AllocGlobal>(rt: &R, words: Option<&str>) -> Result<(), Failure> {
@@ -70,17 +67,9 @@ fn follow<R: Input + Print + AllocGlobal, M: AliasService>(
     Ok(())
 }
 
-/// Plays panels with the closures that are made for their aliases.
-fn play_with<R: Input + Print + AllocGlobal, F: AliasCode, K: Fn(ServiceKind, Text) -> F>(
-    rt: &R,
-    session: &Session,
-    make: &K,
-) -> Result<(), Failure>
-    requires make { K.IsAlwaysCallable make.now }
-    requires services { MakesServices (K.post make.now) F.may_call F.may_reply }
-{
-    let alloc = rt.alloc();
-    match live_with(alloc, session, 64, make) {
+/// Plays panels with the program's own services.
+fn play<R: Input + Print + AllocGlobal>(rt: &R, session: &Session) -> Result<(), Failure> {
+    match live_panels(rt.alloc(), session, 64) {
         Ok(live) => {
             close(rt, None)?;
             follow(rt, live, session.apps())
@@ -90,20 +79,8 @@ fn play_with<R: Input + Print + AllocGlobal, F: AliasCode, K: Fn(ServiceKind, Te
     }
 }
 
-/// Plays panels with the program's own services.
-fn play<R: Input + Print + AllocGlobal>(rt: &R, session: &Session) -> Result<(), Failure> {
-    let alloc = rt.alloc();
-    play_with(
-        rt,
-        session,
-        &|kind: ServiceKind, config: Text| {
-            move |args: &[Text]| kind.reply(alloc, &config, args)
-        },
-    )
-}
-
-/// Plays a session that comes line by line on standard input, and answers each line at once.
-pub(crate) fn live<R: Input + Print + AllocGlobal>(rt: &R) -> Result<u8, Failure> {
+/// Takes lines until a session's front is whole, and answers each: none where the input ends before.
+fn begun<R: Input + Print + AllocGlobal>(rt: &R) -> Result<Option<Session>, Failure> {
     let alloc = rt.alloc();
     let mut blocks = Blocks::new(alloc);
     for line in rt.lines(alloc) {
@@ -111,11 +88,17 @@ pub(crate) fn live<R: Input + Print + AllocGlobal>(rt: &R) -> Result<u8, Failure
             Taken::Silent => {}
             Taken::Accepted => close(rt, None)?,
             Taken::Refused(words) => close(rt, Some(words.as_str()))?,
-            Taken::Begun(session) => {
-                play(rt, &session)?;
-                return Ok(0);
-            }
+            Taken::Begun(session) => return Ok(Some(session)),
         }
+    }
+    Ok(None)
+}
+
+/// Plays a session that comes line by line on standard input, and answers each line at once.
+pub(crate) fn live<R: Input + Print + AllocGlobal>(rt: &R) -> Result<u8, Failure> {
+    // (a file is read ahead: only once the first lines are let go are the others read from behind them)
+    if let Some(session) = begun(rt)? {
+        play(rt, &session)?;
     }
     Ok(0)
 }

@@ -26,8 +26,8 @@ def times(count, script):
 
 
 def brackets(count):
-    """Sets a script of 3 `count` + 380 bytes, which takes most as it is read: brackets in one another."""
-    return "set b [string repeat {[} 190][string repeat {[a]} %d][string repeat {]} 190]" % count
+    """Sets a script of 571 `count` bytes, which takes most as it is read: brackets in one another, each with a letter before the next."""
+    return "set b [string repeat [string repeat {[a} 190]a[string repeat {]} 190] %d]" % count
 
 
 def commands(count):
@@ -90,13 +90,13 @@ ROWS = [
     Row("words put together", TEXT, "set e list; append e [string repeat { $x.} 1000]; catch {eval $e}", 1000),
     Row("texts of loops", LIST, "set e foreach; append e [string repeat { a $l.} 100] { break}; eval $e", 100),
     Row("scripts of an event", TEXT + "; set t {}; " + times(1000, 'bind t$i <Key-x> "#[string range $x 9 end]%K"; lappend t t$i') + "; bindtags . $t", "event generate . <Key-x>", 1000),
-    Row("bytes of a script", brackets(21_710), "catch {eval $b}", 65_510),
+    Row("bytes of a script", brackets(114), "catch {eval $b}", 65_094),
     Row("bytes of commands", commands(16_380), "catch {eval $b}", 65_520),
     Row("items of other lists", TEXT, "catch {split $x {}}", 65_528),
     Row("pairs of one name", TEXT, "event add <<$x>> " + " ".join(SEQUENCES[:1000]), 1000),
     Row("lines", FEEDS, times(300, "puts $x."), 300),
     Row("events of layout", times(511, "pack [frame .w$i -width 5 -height 1]") + "; update", times(100, ".w1 configure -height [expr {1 + $i % 2}]; update idletasks"), 100 * 511, size=(200, 1000)),
-    Row("scripts that failed", failing(21_700) + "; catch {eval $s[incr n]$v($n)}", times(64, "event generate . <<Fail>>"), 64 * 16),
+    Row("scripts that failed", failing(114) + "; catch {eval $s[incr n]$v($n)}", times(64, "event generate . <<Fail>>"), 64 * 16),
     Row("variables", LIST + "; " + TEXT, times(200, KEPT + "; set $x$i $s; unset s"), 200),
     Row("bindings", LIST, times(100, "set t $l.$i; llength $t; llength $t; " + KEPT + "; bind $t a $s"), 100),
     Row("pairs", TEXT, times(200, "event add <<$x$i>> a"), 200),
@@ -104,8 +104,8 @@ ROWS = [
     Row("timers", LINES, times(100, KEPT + "; after 99999 $s"), 100),
     Row("events that are generated", LIST + "; " + TEXT, times(100, KEPT + "; event generate . <<$x>> -when tail -data $s"), 100),
     Row("windows", LIST + "; " + FEEDS + "; set e {$w insert end {*}$l}", times(40, "set w [listbox .$x$i]; eval $e; bindtags $w $l"), 40),
-    Row("bytes of scripts kept", brackets(21_500), times(12, 'proc p$i {} $b; if 1 "list\n#$i\ncontinue\n$b"'), 5 * 65_000),
-    Row("bytes of scripts kept for all", brackets(1200), times(256, 'after 0 "return $i\n$b"') + "; update", 256 * 3_990),
+    Row("bytes of scripts kept", commands(16_250), times(12, 'proc p$i {} $b; if 1 "list\n#$i\ncontinue\n$b"'), 5 * 65_000),
+    Row("bytes of scripts kept for all", commands(997), times(256, 'after 0 "return $i\n$b"') + "; update", 256 * 3_988),
     Row("1,000 steps at once", "", nested(32_768), 1 / 10_900, steps=1000),
     Row("4,000 steps at once", "", nested(32_768), 1 / 10_900, steps=4000),
     Row("sixteen of 1,000 steps at once", "", nested(8192), 1 / 4 / 10_900, 16, 1000),

@@ -5,8 +5,8 @@ them stands.
 The program is that which the gate left in crates/tkhost_main/out. In each session a panel `good` lies beside the attacker, whose section has to be
 the same in all.
 
-- tests/hostile/NAME.session: what each may cost and what has to come of it stands in tests/hostile/hostile.table; and some of them in 40 MiB, which have to end
-  with status 4 and write nothing;
+- tests/hostile/NAME.session: what each may cost and what has to come of it stands in tests/hostile/hostile.table; and some of them in 40 MiB or 12, which have to
+  end with status 4 and write nothing;
 - made here: `destroy .` inside every kind of callback, each command renamed away, and 200 and 201 of whatever nests;
 - made of those in tests/hostile: cut at bytes, with bytes changed, with lines swapped, with fields out of their ranges and with bytes that are no UTF-8;
   and 65,537 lines of a script, of events and of moved rectangles. Some hundreds of these are tried, always the same; each has to end with status 0 or with
@@ -101,8 +101,8 @@ def corpus():
     for name in sorted({*rows} & files):
         yield name, lambda name=name: Run((CORPUS / f"{name}.session").read_bytes(), rows[name][0]).played(rows[name][1])
     # (the lines find room while they are shown, and none where the section is made of them)
-    for name, asker in (("lines-of-newlines", None), ("variables-of-the-longest", "bad"), ("procedures-of-brackets", "bad"), ("words-of-one-command", "bad")):
-        yield f"{name} in 40 MiB", lambda name=name, asker=asker: Run((CORPUS / f"{name}.session").read_bytes(), (30, 40)).starved(asker)
+    for name, room, asker in (("lines-of-newlines", 40, None), ("variables-of-the-longest", 40, "bad"), ("procedures-of-brackets", 12, "bad"), ("words-of-one-command", 40, "bad")):
+        yield f"{name} in {room} MiB", lambda name=name, room=room, asker=asker: Run((CORPUS / f"{name}.session").read_bytes(), (30, room)).starved(asker)
 
 
 # ---- made sessions

@@ -1,5 +1,5 @@
 -- Facts about the commands of string(n) and concat(n).
-use Rattle.std.proofs.Common.{◌≡◌, ℕ, zero, suc, ◌+◌, ◌*◌, ◌/◌, ◌<◌, ◌≤◌, Bool, true, false, List, [], ◌∷◌, ◌++◌, Some, None, Ok, Err, length, take, get_or, map, replicate, refl, sym, ap, ◌∙◌, arith, add-one}
+use Rattle.std.proofs.Common.{◌≡◌, ℕ, zero, suc, ◌+◌, ◌*◌, ◌/◌, ◌%◌, ◌<◌, ◌≤◌, Bool, true, false, List, [], ◌∷◌, ◌++◌, Some, None, Ok, Err, length, take, get_or, map, replicate, refl, sym, ap, ◌∙◌, arith, add-one}
 use Rattle.std.specs.List.{concat, join_with_byte}
 use Rattle.std.specs.Prelude.{not, ◌==◌, filter, nat_eq}
 use Rattle.std.specs.Cmp.Lexicographic.{same_text, pointwise}
@@ -31,6 +31,32 @@ copies_more (suc n) text = append_assoc text (concat (replicate n text)) text �
 
 pub copies_step : (n : ℕ) (text : List ℕ) → concat (replicate (n + 1) text) ≡ concat (replicate n text) ++ text
 copies_step n text = rw add-one (sym (copies_more n text))
+
+same_copies : (n m : ℕ) (text : List ℕ) → n ≡ m → concat (replicate n text) ≡ concat (replicate m text)
+same_copies n m text same = ap (λ (k : ℕ). concat (replicate k text)) same
+
+copies_join : (n m : ℕ) (text : List ℕ) → concat (replicate n text) ++ concat (replicate m text) ≡ concat (replicate (n + m) text)
+copies_join zero m text = same_copies m (zero + m) text (omega arith)
+copies_join (suc n) m text =
+    append_assoc text (concat (replicate n text)) (concat (replicate m text)) ∙ ap (λ (t : List ℕ). text ++ t) (copies_join n m text)
+    ∙ same_copies (suc (n + m)) (suc n + m) text (omega arith)
+
+copies_of_copies : (n k : ℕ) (text : List ℕ) → concat (replicate n (concat (replicate k text))) ≡ concat (replicate (n * k) text)
+copies_of_copies zero k text = same_copies zero (zero * k) text (omega arith)
+copies_of_copies (suc n) k text =
+    ap (λ (t : List ℕ). concat (replicate k text) ++ t) (copies_of_copies n k text) ∙ copies_join k (n * k) text
+    ∙ same_copies (k + n * k) (suc n * k) text (omega arith)
+
+-- 64 copies stand in one block first
+pub copies_in_blocks : (n : ℕ) (text : List ℕ) → concat (replicate (n / 64) (concat (replicate 64 text))) ++ concat (replicate (n % 64) text) ≡ concat (replicate n text)
+copies_in_blocks n text =
+    ap (λ (t : List ℕ). t ++ concat (replicate (n % 64) text)) (copies_of_copies (n / 64) 64 text) ∙ copies_join (n / 64 * 64) (n % 64) text
+    ∙ same_copies (n / 64 * 64 + n % 64) n text (omega arith)
+
+pub copies_in_none : (n : ℕ) (text : List ℕ) → n < 64 → concat (replicate (n % 64) text) ≡ concat (replicate n text)
+copies_in_none n text few = same_copies (n % 64) n text (omega arith)
+
+pub ruleset block_copies = (copies_in_blocks, copies_in_none)
 
 copies_of_nothing : (n : ℕ) → concat (replicate n []) ≡ []
 copies_of_nothing zero = refl

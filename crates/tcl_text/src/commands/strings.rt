@@ -1,5 +1,5 @@
 //! The commands of string(n), and concat(n).
-ghost use Rattle.std.specs.Prelude.{◌≡◌, ◌<◌, ◌≤◌, min, replicate, [], ◌∷◌, true, Ok, IfOk, IfSome, IfNone, OnOk, string_bytes, length};
+ghost use Rattle.std.specs.Prelude.{◌≡◌, ◌++◌, ◌<◌, ◌≤◌, min, replicate, [], ◌∷◌, true, Ok, IfOk, IfSome, IfNone, OnOk, string_bytes, length};
 ghost use Rattle.std.specs.List.{concat};
 ghost use Rattle.std.specs.Str.{chars, encode_utf8_all, IsAscii};
 ghost use Rattle.tcl_text.specs.Answers.{Gives, answers};
@@ -215,14 +215,31 @@ fn repeated(alloc: Global, text: &str, count: u64) -> Reply
     string_answer(alloc, string)
 }
 
+/// How many copies are made one by one: where there are more, a block of so many is copied whole.
+const BLOCK: u64 = 64;
+
+#[tactic(auto, using(crate::proofs::StringLemmas::block_copies))]
 fn copies(alloc: Global, text: &str, count: u64) -> Result<String, AllocError>
     ensures { IfOk result (λ string. string_bytes string ≡ concat (replicate count text.now)) }
 {
     let mut string = String::new(alloc);
+    if count >= BLOCK {
+        let mut block = String::new(alloc);
+        push_copies(&mut block, text, BLOCK)?;
+        push_copies(&mut string, block.as_str(), count / BLOCK)?;
+    }
+    push_copies(&mut string, text, count % BLOCK)?;
+    Ok(string)
+}
+
+/// Adds so many copies of a text, one by one.
+fn push_copies(string: &mut String, text: &str, count: u64) -> Result<(), AllocError>
+    ensures { OnOk result (string_bytes string.new ≡ string_bytes string.old ++ concat (replicate count text.now)) }
+{
     for _copy in 0..count {
         string.push_str(text)?;
     }
-    Ok(string)
+    Ok(())
 }
 
 impl Text {

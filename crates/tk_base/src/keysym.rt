@@ -1,3 +1,7 @@
+ghost use Rattle.std.specs.Char.{IsAsciiAlphanumeric};
+ghost use Rattle.std.specs.Prelude.{◌≡◌, ◌∷◌, []};
+ghost use Rattle.tk_base.specs.Names.{key_named};
+
 use crate::names::{NAMES, line_at, place_of};
 use std::marker::Model;
 
@@ -42,6 +46,11 @@ impl Keysym {
     pub fn named(name: &str) -> Option<Keysym>
         ensures { result ≡ key_named name.now }
     {
+        if let [byte] = name.as_bytes()
+            && byte.is_ascii_alphanumeric()
+        {
+            return key_of_sign(*byte);
+        }
         match place_of(NAMES, name) {
             Some(place) => Some(Keysym { index: place as u8 }),
             None => None,
@@ -90,4 +99,13 @@ impl Keysym {
     {
         self.index >= 121
     }
+}
+
+/// The key of a letter or a digit, which is its own name: it stands in the list where its character does.
+#[tactic(auto, using(crate::proofs::NamesLemmas::of_sign))]
+fn key_of_sign(byte: u8) -> Option<Keysym>
+    requires { IsAsciiAlphanumeric byte }
+    ensures { result ≡ key_named (byte ∷ []) }
+{
+    Keysym::of_character(char::from(byte))
 }

@@ -8,6 +8,7 @@ pub mod HeldLemmas
 pub mod KnownWords
 pub mod NameLemmas
 pub mod Parses
+pub mod Prefixes
 pub mod PatternsCut
 pub mod PatternsRead
 pub mod PieceLemmas

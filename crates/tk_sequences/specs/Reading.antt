@@ -1,6 +1,6 @@
 -- Steps. What a text says as an event sequence, and why one is refused, as a function that goes from byte to byte. What it is says `Grammar`, as a
 -- relation on the whole text; that they are one, the laws `sequences_are_read` and `faults_are_told`.
-use Rattle.std.specs.Prelude.{◌≡◌, ℕ, ◌+◌, ◌-◌, Bool, false, ◌&&◌, ◌||◌, ◌==◌, nat_le, bit_or, if◌then◌else◌, List, [], ◌∷◌, ◌++◌, drop, filter, Option, Some, None, option_map, Result, Ok, Err}
+use Rattle.std.specs.Prelude.{◌≡◌, ℕ, ◌+◌, ◌-◌, Bool, false, ◌&&◌, ◌||◌, ◌==◌, nat_le, bit_or, if◌then◌else◌, List, [], ◌∷◌, ◌++◌, drop, filter, length, Option, Some, None, option_map, Result, Ok, Err}
 use Rattle.std.specs.List.{prefix_len, slice_split}
 use Rattle.std.specs.Option.{option_or}
 use Rattle.tk_base.specs.Steps.{◌>>=◌}
@@ -40,6 +40,15 @@ fields inner = filter is_some_text (slice_split is_separator inner)
 -- a modifier, or how often the event comes
 abbrev pub prefix_named : List ℕ → Option Prefix
 prefix_named word = option_or (option_map prefixes.Modifier (modifier_named word)) (option_map prefixes.Repetition (repetition_named word))
+
+-- each of their words begins with one of these bytes, and has at most nine
+abbrev pub is_initial : ℕ → Bool
+is_initial byte =
+    (nat_le 65 byte && nat_le byte 68) || (byte == 76 || (byte == 77 || (byte == 81 || (byte == 83 || byte == 84))))
+
+abbrev pub may_stand_before : List ℕ → Bool
+may_stand_before [] = false
+may_stand_before (first ∷ rest) = is_initial first && nat_le (length (first ∷ rest)) 9
 
 -- a character that stands for its key, within brackets: not `-`, `<` or `>`
 abbrev pub key_of_one : List ℕ → Option ℕ

@@ -2,7 +2,7 @@
 ghost use Rattle.std.specs.Prelude.{◌≡◌, ◌≢◌, ◌<◌, ◌≤◌, length, drop, slice_index, false, IfOk, IfErr, Ok, Err, Some, None};
 ghost use Rattle.std.specs.Str.{IsCharBoundary};
 ghost use Rattle.tcl_text.specs.Backslash.{is_white};
-ghost use Rattle.tk_sequences.specs.Reading.{prefix_named, key_of_one, key_meant, detail_of, key_or_fault, detail_behind, typed, button_or_key, type_of_detail, untyped, headed, pattern_of, plain_pattern, patterns_from, Between, CutsOff, IsRefused, fields};
+ghost use Rattle.tk_sequences.specs.Reading.{prefix_named, is_initial, may_stand_before, key_of_one, key_meant, detail_of, key_or_fault, detail_behind, typed, button_or_key, type_of_detail, untyped, headed, pattern_of, plain_pattern, patterns_from, Between, CutsOff, IsRefused, fields};
 ghost use Rattle.tk_sequences.specs.Words.{button_named, is_single};
 ghost use Rattle.tk_sequences.specs.Patterns.{count_of, most_events};
 
@@ -23,10 +23,31 @@ pub enum Prefix {
     Repetition(Repetition),
 }
 
+/// Whether such a word begins with this byte.
+fn is_initial(byte: u8) -> bool
+    ensures { result ≡ is_initial byte }
+{
+    matches!(byte, b'A'..=b'D' | b'L' | b'M' | b'Q' | b'S' | b'T')
+}
+
+/// Whether a word begins as one that may stand there, and is as short.
+fn may_stand_before(word: &str) -> bool
+    ensures { result ≡ may_stand_before word.now }
+{
+    match word.as_bytes() {
+        [first, ..] => is_initial(*first) && word.len() <= 9,
+        [] => false,
+    }
+}
+
 /// What a word in front of a type or a detail says, if it may stand there.
+#[tactic(auto, using(crate::proofs::Prefixes::none_before))]
 fn prefix_named(word: &str) -> Option<Prefix>
     ensures { result ≡ prefix_named word.now }
 {
+    if !may_stand_before(word) {
+        return None;
+    }
     match Modifier::named(word) {
         Some(modifier) => Some(Prefix::Modifier(modifier)),
         None => match Repetition::named(word) {

@@ -62,6 +62,7 @@ pub fn scripts_for(
 }
 
 /// The same for some binding tags, as those of a window that is at hand.
+#[tactic(auto, using(crate::proofs::TagLemmas::nothing_runs))]
 pub fn scripts_for_tags(
     alloc: Global,
     windows: &Windows,
@@ -75,6 +76,10 @@ pub fn scripts_for_tags(
     ensures { IfOk result (λ chosen. chosen ≡ scripts_of (windows_of.own_of owner windows.now)
         (meanings_of (virtuals_of.own_of owner virtuals.now)) (bindings_of.own_of owner bindings.now) history.now event.now tags.now) }
 {
+    if !bindings.may_run(owner, tags, event) {
+        let none = TextList::new(alloc);
+        return Ok(Ok(none));
+    }
     let virtuals = virtuals.of(owner);
     let choice = Choice {
         windows,

@@ -5,6 +5,7 @@ pub mod EventLemmas
 pub mod FiledLemmas
 pub mod FilingLemmas
 pub mod KeptLemmas
+pub mod MarkLemmas
 pub mod MatchLemmas
 pub mod MatchingLemmas
 pub mod OrderLemmas

@@ -6,6 +6,7 @@ pub mod Filing
 pub mod Fits
 pub mod History
 pub mod Inputs
+pub mod Marks
 pub mod Matches
 pub mod Matching
 pub mod Named

@@ -334,7 +334,7 @@ pub(crate) fn has_both(event: &Event) -> bool
 }
 
 /// The number of a tag and a class.
-fn filing_number(tag: &str, class: u64) -> u64
+pub(crate) fn filing_number(tag: &str, class: u64) -> u64
     ensures { result ≡ filing_number tag.now class }
 {
     let mut number = class;

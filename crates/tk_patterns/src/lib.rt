@@ -17,6 +17,7 @@ mod rests;
 mod same;
 mod seeking;
 mod table;
+mod type_marks;
 mod verdict;
 mod winning;
 
@@ -34,3 +35,4 @@ pub use table::BindTable;
 pub use tk_base::{Keysym, LocalEvent};
 pub use tk_sequences::{Event, EventKind, EventType, Sequence, VirtualName};
 pub use tk_virtual::VirtualPairs;
+pub use type_marks::TypeMarks;

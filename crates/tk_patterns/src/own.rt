@@ -1,10 +1,11 @@
-ghost use Rattle.std.specs.Prelude.{◌≡◌, [], ◌∷◌, ◌++◌, ◌<◌, nat_le, Err, IfOk, OnOk, OnErr, IsOkUnless, MatchBool, length, map};
+ghost use Rattle.std.specs.Prelude.{◌≡◌, ℕ, List, [], ◌∷◌, ◌++◌, ◌<◌, nat_le, false, true, Err, IfOk, OnOk, OnErr, IsOkUnless, MatchBool, length, map};
 ghost use Rattle.std.specs.List.{remove};
 ghost use Rattle.std.specs.Option.{option_copied};
 ghost use Rattle.tk_patterns.specs.Own.{has_tag, is_of, binding_of, most_bindings, script_of, sequences_of, refuses, with_binding, without_binding, without_tag};
 ghost use Rattle.tk_patterns.specs.OwnSteps.{with_script_at};
 ghost use Rattle.tk_patterns.specs.Filed.{numbers_of};
 ghost use Rattle.tk_patterns.specs.Filing.{filed_under};
+ghost use Rattle.tk_patterns.specs.Marks.{HasNoWinner, RunsNone, has_mark, last_type};
 ghost use Rattle.tk_patterns.specs.Winner.{winner};
 ghost use Rattle.tk_virtual.specs.Virtual.{meanings_of};
 
@@ -12,12 +13,13 @@ use crate::binding::{Binding, has_tag, is_of};
 use crate::fault::BindFault;
 use crate::filing::filed_under;
 use crate::seeking::{Wanted, place_of, script_at};
+use crate::type_marks::{TypeMarks, VIRTUAL_TYPE, last_type};
 use crate::winning::winner;
 use crate::{Buckets, History};
 use std::alloc::{AllocError, Global};
 use std::marker::Model;
 use tcl_text::Text;
-use tk_sequences::{Event, Sequence};
+use tk_sequences::{Event, EventKind, Sequence};
 use tk_virtual::VirtualPairs;
 
 /// How many bindings an application has at most.
@@ -30,11 +32,14 @@ pub(crate) struct OwnBindings {
     bindings: Vec<Binding>,
     /// The numbers that they are filed under.
     filed: Buckets,
+    /// Which tags have any for which types of events.
+    marks: TypeMarks,
 }
 
 impl Model for OwnBindings {
-    ghost use Rattle.std.specs.Prelude.{◌≡◌, List, map};
+    ghost use Rattle.std.specs.Prelude.{◌≡◌, List, map, true};
     ghost use Rattle.tk_patterns.specs.Filed.{numbers_of};
+    ghost use Rattle.tk_patterns.specs.Marks.{all_marked};
     ghost use Rattle.tk_patterns.specs.declared.binding.Binding.{Binding};
     ghost use Rattle.tk_patterns.specs.Filing.{filed_under};
 
@@ -42,7 +47,7 @@ impl Model for OwnBindings {
 
     ghost view = { λ o. o.bindings.items };
 
-    ghost invariant = { λ o. numbers_of o.filed ≡ map filed_under o.bindings.items };
+    ghost invariant = { λ o. (numbers_of o.filed ≡ map filed_under o.bindings.items) × (all_marked o.marks o.bindings.items ≡ true) };
 }
 
 impl OwnBindings {
@@ -53,7 +58,35 @@ impl OwnBindings {
         OwnBindings {
             bindings: Vec::new(alloc),
             filed: Buckets::new(alloc),
+            marks: TypeMarks::new(),
         }
+    }
+
+    /// Whether anything may be bound for a tag that an event could run.
+    fn may_hold(&self, tag: &str, event: &Event) -> bool
+        ensures { result ≡ false → HasNoWinner event.now self.now tag.now }
+    {
+        if self.marks.has(tag, VIRTUAL_TYPE) {
+            return true;
+        }
+        match &event.kind {
+            EventKind::Physical(kind) => self.marks.has(tag, u64::from(kind.number())),
+            EventKind::Virtual(_) => false,
+        }
+    }
+
+    /// Whether anything may be bound for one of some tags that an event could run.
+    pub(crate) fn may_run(&self, tags: &[Text], event: &Event) -> bool
+        ensures { result ≡ false → RunsNone tags.now event.now self.now }
+    {
+        let mut rest = tags;
+        while let Some((tag, others)) = rest.split_first() {
+            if self.may_hold(tag.as_str(), event) {
+                return true;
+            }
+            rest = others;
+        }
+        false
     }
 
     /// The script that an event runs for a tag.
@@ -67,6 +100,9 @@ impl OwnBindings {
     ) -> Result<Option<&'a Text>, AllocError>
         ensures { IfOk result (λ script. option_copied script ≡ winner (meanings_of virtuals.now) tag.now event.now history.now self.now) }
     {
+        if !self.may_hold(tag, event) {
+            return Ok(None);
+        }
         winner(
             alloc,
             self.bindings.as_slice(),
@@ -118,6 +154,7 @@ impl OwnBindings {
         ensures err { OnErr result (self.new ≡ self.old) }
     {
         let numbers = filed_under(&binding);
+        mark_binding(&mut self.marks, &binding);
         add(&mut self.bindings, binding)?;
         match self.filed.push(numbers) {
             Ok(()) => Ok(()),
@@ -157,6 +194,14 @@ impl OwnBindings {
     {
         sequences_of(alloc, self.bindings.as_slice(), tag)
     }
+}
+
+/// A binding's tag and the type that it ends with have their mark from now on.
+fn mark_binding(marks: &mut TypeMarks, binding: &Binding)
+    ensures own { has_mark marks.new binding.now.tag (last_type binding.now.sequence) ≡ true }
+    ensures others { (tag : List ℕ) (type : ℕ) → has_mark marks.old tag type ≡ true → has_mark marks.new tag type ≡ true }
+{
+    marks.mark(binding.tag.as_str(), last_type(&binding.sequence));
 }
 
 /// The sequences of a tag's bindings.

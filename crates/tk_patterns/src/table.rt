@@ -1,5 +1,6 @@
-ghost use Rattle.std.specs.Prelude.{◌≡◌, [], Err, IfOk, OnOk, OnErr, IsOkUnless, MatchBool, IfSome};
+ghost use Rattle.std.specs.Prelude.{◌≡◌, [], false, Err, IfOk, OnOk, OnErr, IsOkUnless, MatchBool, IfSome};
 ghost use Rattle.std.specs.Option.{option_copied};
+ghost use Rattle.tk_patterns.specs.Marks.{RunsNone};
 ghost use Rattle.tk_patterns.specs.Own.{script_of, sequences_of, refuses, with_binding, without_binding, without_tag};
 ghost use Rattle.tk_patterns.specs.Shared.{own_of, LeavesOthers, LeavesAll};
 ghost use Rattle.tk_patterns.specs.Winner.{winner};
@@ -103,6 +104,17 @@ impl BindTable {
         match self.owners.get(&owner) {
             Some(own) => own.sequences(self.alloc, tag),
             None => Ok(Vec::new(self.alloc)),
+        }
+    }
+
+    /// Whether an event may run a script for one of some tags. Where it is false, it runs none, whatever events came before and whatever virtual events
+    /// stand for. It takes no memory.
+    pub fn may_run(&self, owner: usize, tags: &[Text], event: &Event) -> bool
+        ensures { result ≡ false → RunsNone tags.now event.now (own_of owner self.now) }
+    {
+        match self.owners.get(&owner) {
+            Some(own) => own.may_run(tags, event),
+            None => false,
         }
     }
 

@@ -6,6 +6,8 @@ use Rattle.tk_patterns.specs.OwnSteps.{with_script_at}
 use Rattle.tk_patterns.specs.Filing.{filed_under, filing_number, sequence_number}
 use Rattle.tk_virtual.specs.Classes.{sequence_class}
 use Rattle.tk_patterns.proofs.KeptLemmas.{numbers_again}
+use Rattle.tk_patterns.specs.Marks.{all_marked}
+use Rattle.tk_patterns.proofs.MarkLemmas.{marked_again}
 use Rattle.tk_patterns.proofs.BindLemmas.{found_not_refused, again_there, none_refuses, added_there}
 use Rattle.tk_patterns.proofs.own.OwnBindings.bind.Goals as goal
 
@@ -44,7 +46,9 @@ pub invariant_of-self : goal.invariant_of-self
 invariant_of-self c =
     let own = c.self.inside.bindings.items in
     let place = c.in-Some.place in
-    let script = c.script_in-script.result in
-    c.self.invariant
-    ∙ sym (ap (map filed_under) c.set_script.ensures
-    ∙ numbers_again (λ tag sequence. record { class = filing_number tag (sequence_class sequence); whole = filing_number tag (sequence_number sequence) }) own place script)
+    let script = c.script_in-script.result in (
+      c.self.invariant.0
+          ∙ sym (ap (map filed_under) c.set_script.ensures
+          ∙ numbers_again (λ tag sequence. record { class = filing_number tag (sequence_class sequence); whole = filing_number tag (sequence_number sequence) }) own place script),
+      ap (all_marked c.self.inside.marks) c.set_script.ensures ∙ marked_again c.self.inside.marks own place script c.self.invariant.1,
+    )

@@ -4,4 +4,5 @@ pub mod Fields
 pub mod Generate
 pub mod Given
 pub mod Refusals
+pub mod Told
 pub mod Values

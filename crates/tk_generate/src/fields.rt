@@ -62,6 +62,9 @@ fn has_detail(kind: EventType) -> bool
 fn state_of(modifiers: Modifiers) -> u16
     ensures { result ≡ spec.state_of modifiers }
 {
+    if modifiers.bits() == 0 {
+        return 0;
+    }
     let mut state = 0;
     for modifier in Modifier::ALL {
         state += held_bit(modifiers, modifier);

@@ -1,14 +1,17 @@
 //! `event generate` (event(n)).
-ghost use Rattle.std.specs.Prelude.{◌≡◌, ◌<◌, ◌^◌, IfOk, length};
+ghost use Rattle.std.specs.Prelude.{◌≡◌, ◌<◌, ◌^◌, ℕ, IfOk, length};
 ghost use Rattle.std.specs.Option.{option_copied};
 ghost use Rattle.tcl_text.specs.Answers.{Gives, fails, wrong_args as wrong_args_of};
 ghost use Rattle.tk_generate.specs.Generate as spec;
+ghost use Rattle.tk_generate.specs.Told.{is_by_pointer, tells_place};
 ghost use Rattle.tk_tree.specs.Corners.{corner};
 ghost use Rattle.tk_tree.specs.Own.{at_path, window_at};
 ghost use Rattle.tk_tree.specs.Shared.{own_of};
 
 use crate::asked::{EventRequest, asked_in};
-use crate::fields::{button_for, detail_for, from_corner, key_for, place_for, root_for, state_for};
+use crate::fields::{
+    button_for, detail_for, from_corner, is_of_pointer, key_for, place_for, root_for, state_for,
+};
 use crate::given::{Given, When, given_in};
 use std::alloc::{AllocError, Global};
 use tcl_text::Text;
@@ -142,15 +145,46 @@ fn event_for(
 ) -> Result<Event, Refusal>
     ensures { Gives result (spec.event_for asked given receiver moment (own_of slot windows.now)) }
 {
-    let corner = windows.corner(Win {
+    let win = Win {
         owner: slot,
         number: receiver.number,
-    });
+    };
+    let corner = corner_told(windows, win, &asked, &given);
     match asked {
         EventRequest::Physical(pattern) => physical_event(
             alloc, &pattern, given, receiver, corner, moment,
         ),
         EventRequest::Virtual(name) => Ok(virtual_event(name, given, receiver, corner, moment)),
+    }
+}
+
+/// The corner of an event's window, where the event tells a place; else any, since no field is told from it.
+fn corner_told(windows: &Windows, win: Win, asked: &EventRequest, given: &Given) -> Corner
+    ensures near { (result.x < 2 ^ 41) × (result.y < 2 ^ 41) }
+    ensures told { (receiver : Receiver) (moment : ℕ) → spec.event_in asked.now given.now receiver result moment
+        ≡ spec.event_in asked.now given.now receiver (corner win.number (own_of win.owner windows.now)) moment }
+{
+    if tells_place(asked, given) {
+        windows.corner(win)
+    } else {
+        Corner { x: 0, y: 0 }
+    }
+}
+
+/// Whether an event tells a place: one that is given, or the one that each event of the pointer has.
+fn tells_place(asked: &EventRequest, given: &Given) -> bool
+    ensures { result ≡ tells_place asked.now given.now }
+{
+    given.x.is_some() || given.y.is_some() || is_by_pointer(asked)
+}
+
+/// Whether the pointer makes the event.
+fn is_by_pointer(asked: &EventRequest) -> bool
+    ensures { result ≡ is_by_pointer asked.now }
+{
+    match asked {
+        EventRequest::Physical(pattern) => is_of_pointer(pattern.kind),
+        EventRequest::Virtual(_) => false,
     }
 }
 
